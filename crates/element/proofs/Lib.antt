@@ -1,0 +1,4 @@
+mod Bitwise
+pub mod Forces
+pub mod Unions
+pub mod Joins

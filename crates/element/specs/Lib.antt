@@ -1,0 +1,4 @@
+pub mod Kinds
+pub mod Algebra
+pub mod Join
+pub mod Models

@@ -1,0 +1,5 @@
+// The exchange: loading, starting, turning, reporting and ending a run.
+pub mod fault;
+pub mod run;
+mod receive;
+mod send;

@@ -1,0 +1,14 @@
+pub mod Members
+pub mod Filters
+pub mod Ordered
+pub mod Lowest
+pub mod Owner
+pub mod Overlap
+pub mod Copies
+pub mod Edges
+pub mod Totals
+pub mod Ghosts
+pub mod Relations
+pub mod Stars
+pub mod Accepted
+pub mod Sizes

@@ -1,0 +1,4 @@
+pub mod Appending
+pub mod Taking
+mod Shift
+mod Tables

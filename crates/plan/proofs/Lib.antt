@@ -1,0 +1,5 @@
+pub mod Breaks
+pub mod Counting
+pub mod Faultless
+pub mod Orders
+pub mod Plans
