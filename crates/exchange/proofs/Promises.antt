@@ -2,7 +2,7 @@
 use mathlib.Core.Path.{_≡_, refl, sym, ap, ap₂, _∙_, subst}
 use mathlib.Core.Logic.{inl, inr}
 use mathlib.Core.Bool.{Bool, true, false, cond}
-use mathlib.Core.List.{List, [], _∷_, _++_}
+use mathlib.Core.List.{List, [], _∷_, _++_, append-assoc, append-nil}
 use Prim.Native.Nat.{ℕ, zero, suc, _+_, _*_, _/_, _%_, _<_}
 use native.Mathlib.Omega.{arith}
 use lib.ListN.{getD, replicate}
@@ -21,7 +21,7 @@ use Rattle.protocol.specs.Runs.{Moment, Turn, Run, fresh, turn, laid, seen, cou
 use Rattle.protocol.specs.Turns.{lost}
 use Rattle.protocol.proofs.Theorem.{promise-holds}
 use Rattle.exchange.specs.Calls.{Idle-before}
-use Rattle.exchange.specs.Going.{Laid-plan, Own-sums, Kept, Goes-on}
+use Rattle.exchange.specs.Going.{Laid-plan, Own-sums, Kept, Goes-on, Carried}
 
 same-either-way : {X : Type 0} (b : Bool) (x : X) → cond b x x ≡ x
 same-either-way true x = refl
@@ -84,3 +84,32 @@ module _ {M : Type 0} (A : Algebra M) (law : Lawful A) (s : Scene) where
       → (ts : List ℕ) (book : Book) (losses : ℕ) → Run A s ts m book losses → Kept A s ts m′ book losses
   still-goes-on ok m m′ e ts book losses r =
       subst (λ x. Kept A s ts x book losses) (sym e) (kept ok ts m book losses r)
+
+  pub carried-nowhere : Sound s → (m : Moment M) → Carried A s m m []
+  carried-nowhere ok m ts book losses r =
+      (book, losses, subst (λ us. Kept A s us m book losses) (sym (append-nil ts)) (kept ok ts m book losses r))
+
+  -- one more turn
+  pub carried-on : (m m₁ m₂ : Moment M) (us : List ℕ) (p : ℕ) (n : TurnCounts) → Carried A s m m₁ us
+      → Goes-on A s p m₁ m₂ (Ok n) → Carried A s m m₂ (us ++ (p ∷ []))
+  carried-on m m₁ m₂ us p n c t ts book losses r =
+      let (book₁, losses₁, k) = c ts book losses r in
+      let book₂ : Book = fed (laid A s) p (m₁ .lanes) book₁ in
+      (book₂, losses₁ + n .lost, subst (λ vs. Kept A s vs m₂ book₂ (losses₁ + n .lost)) (append-assoc ts us (p ∷ []))
+        (t (ts ++ us) book₁ losses₁ (k .run)))
+
+  -- some turns, then others
+  pub carried-further : (m m₁ m₂ : Moment M) (us vs : List ℕ) → Carried A s m m₁ us → Carried A s m₁ m₂ vs
+      → Carried A s m m₂ (us ++ vs)
+  carried-further m m₁ m₂ us vs c d ts book losses r =
+      let (book₁, losses₁, k) = c ts book losses r in
+      let (book₂, losses₂, l) = d (ts ++ us) book₁ losses₁ (k .run) in
+      (book₂, losses₂, subst (λ ws. Kept A s ws m₂ book₂ losses₂) (append-assoc ts us vs) l)
+
+  -- a call that leaves every run where it is
+  pub carried-still : (m m₁ m₂ : Moment M) (us : List ℕ) → Carried A s m m₁ us
+      → ((ts : List ℕ) (book : Book) (losses : ℕ) → Run A s ts m₁ book losses → Kept A s ts m₂ book losses)
+      → Carried A s m m₂ us
+  carried-still m m₁ m₂ us c d ts book losses r =
+      let (book₁, losses₁, k) = c ts book losses r in
+      (book₁, losses₁, d (ts ++ us) book₁ losses₁ (k .run))

@@ -43,3 +43,8 @@ Goes-on A s p m m′ (Ok n) = (ts : List ℕ) (book : Book) (losses : ℕ) → R
     → Kept A s (ts ++ (p ∷ [])) m′ (fed (laid A s) p (m .lanes) book) (losses + n .lost)
 Goes-on A s p m m′ (Err f) = (ts : List ℕ) (book : Book) (losses : ℕ) → Run A s ts m book losses
     → Kept A s ts m′ book losses
+
+-- every run that was at m is at m′ after the turns of these boards, and keeps its promise
+abbrev pub Carried : {M : Type 0} → Algebra M → Scene → Moment M → Moment M → List ℕ → Type 0
+Carried A s m m′ us = (ts : List ℕ) (book : Book) (losses : ℕ) → Run A s ts m book losses
+    → (book′ : Book) × (losses′ : ℕ) × Kept A s (ts ++ us) m′ book′ losses′

@@ -1,6 +1,7 @@
 // Why a call of a run is refused.
 ghost use mathlib.Core.Path.{_≡_};
 ghost use lib.ListN.{getD};
+ghost use Rattle.plan.specs.Faults.{last-of};
 ghost use Rattle.exchange.specs.Faults.{run-numbers};
 
 #[derive(Clone, Copy, PartialEq, Eq)]
@@ -31,6 +32,20 @@ impl RunFault {
             RunFault::Board { given: _ } => 13,
             RunFault::Turns => 14,
             RunFault::Early { board: _ } => 15,
+        }
+    }
+
+    // The last of its values.
+    pub fn last(&self) -> usize
+        ensures { λ r. ⌜ r ≡ last-of (run-numbers (now (self .entry))) ⌝ }
+    {
+        match self {
+            RunFault::Kind { kind } => usize::from(*kind),
+            RunFault::Short { needed } => *needed,
+            RunFault::Waiting { from: _, to } => *to,
+            RunFault::Board { given } => *given,
+            RunFault::Turns => 1000000,
+            RunFault::Early { board } => *board,
         }
     }
 }

@@ -3,3 +3,4 @@ pub mod fault;
 pub mod run;
 mod receive;
 mod send;
+mod sums;

@@ -1,6 +1,8 @@
 // The two ways out of a run.
 ghost use mathlib.Core.Path.{_≡_};
+ghost use mathlib.Core.Bool.{not};
 ghost use Prim.Native.Nat.{ℕ, _<_, _≤_};
+ghost use lib.Dec.{ltb};
 ghost use Rattle.std.specs.declared.result.Result.the-variants.{Ok, Err};
 ghost use Rattle.plan.specs.Links.{shape};
 ghost use Rattle.protocol.specs.Books.{lowest-unsettled};
@@ -11,6 +13,7 @@ use protocol::table::LinkTable;
 use protocol::tally::Report;
 use protocol::tally::Tally;
 use super::Ended;
+use super::Loaded;
 use super::Turning;
 use super::report::report_on;
 
@@ -50,6 +53,13 @@ impl Turning {
         tally
     }
 
+    // Whether every board is settled.
+    pub fn all_settled(&self, plan: &PlanView, table: &LinkTable) -> bool
+        ensures { λ r. ⌜ r ≡ not (ltb (lowest-unsettled (shape (now (plan .entry) .boards) (now (now (plan .entry) .edges))) (accepted-in (now (table .entry) .links))) (now (plan .entry) .boards)) ⌝ }
+    {
+        !(first_unsettled(plan, table) < plan.boards())
+    }
+
     pub fn tally(&self) -> Tally
         ensures { λ r. ⌜ r ≡ now (self .entry) .tally ⌝ }
     {
@@ -64,5 +74,15 @@ impl Ended {
     {
         let Ended { tally } = self;
         tally
+    }
+}
+
+impl Loaded {
+    // Puts a run away before it starts; answers how many copies were loaded.
+    pub fn discard(self) -> usize
+        ensures { λ r. ⌜ r ≡ self .copies ⌝ }
+    {
+        let Loaded { copies } = self;
+        copies
     }
 }

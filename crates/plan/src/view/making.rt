@@ -12,9 +12,9 @@ use crate::links::link_starts;
 use crate::records::CopyRecord;
 use crate::records::Edge;
 
-impl PlanView<'static> {
+impl<'a> PlanView<'a> {
     // One board and no records.
-    pub fn new() -> PlanView<'static>
+    pub fn new() -> PlanView<'a>
         ensures { λ r. ⌜ (r .boards ≡ 1) × (now (r .copies) ≡ []) × (now (r .edges) ≡ []) ⌝ }
     {
         PlanView {

@@ -1,0 +1,12 @@
+pub mod Bytewise
+pub mod Cellwise
+pub mod Counted
+pub mod Holding
+pub mod Readback
+pub mod Reading
+pub mod Scenewise
+pub mod Soundness
+pub mod Standing
+pub mod Unused
+pub mod Verdicts
+pub mod Viewing
