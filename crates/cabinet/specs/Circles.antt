@@ -36,6 +36,6 @@ abbrev pub Settles : {M : Type 0} → Algebra M → ℕ → List CopyRecord → 
 Settles A boards copies edges limit m m′ (Ok settled) =
     (settled ≡ not (ltb (lowest-unsettled (shape boards edges) (accepted-in (m′ .links))) boards))
     × ((s : Scene) → Laid-plan s boards copies edges
-      → (k : ℕ) × (k ≤ limit) × (settled ≡ false → k ≡ limit) × Carried A s m m′ (circles boards k))
+    → (k : ℕ) × (k ≤ limit) × (settled ≡ false → k ≡ limit) × Carried A s m m′ (circles boards k))
 Settles A boards copies edges limit m m′ (Err _) =
     (s : Scene) → Laid-plan s boards copies edges → (us : List ℕ) × Carried A s m m′ us

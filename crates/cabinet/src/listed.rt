@@ -31,6 +31,7 @@ use std::alloc::Global;
 
 // How many records and copies there is memory for, and how many circles are made at most.
 const MEMORY: usize = 4096;
+
 const CIRCLES: usize = 100000;
 
 fn list_refusal(heap: Global, refusal: Refusal) -> Result<Vec<u8>, AllocError> {
@@ -46,19 +47,36 @@ fn add_head(page: &mut Vec<u8>, numbers: PlanNumbers, tally: Tally) -> Result<()
 }
 
 // All boards are settled: each shows its copies.
-fn list_settled<E: Element>(page: &mut Vec<u8>, ended: &Ended, plan: &PlanView, values: &[E]) -> Result<(), AllocError> {
+fn list_settled<E: Element>(
+    page: &mut Vec<u8>,
+    ended: &Ended,
+    plan: &PlanView,
+    values: &[E],
+) -> Result<(), AllocError> {
     for board in 0..plan.boards() {
         let part = plan.board_part(board);
         let (from, end) = (part.from, part.from + part.count);
         if let Ok(shown) = ended.show(plan, values, board) {
-            add_board(page, board, Report::Settled, &plan.copies()[from..end], shown)?;
+            add_board(
+                page,
+                board,
+                Report::Settled,
+                &plan.copies()[from..end],
+                shown,
+            )?;
         }
     }
     Ok(())
 }
 
 // Some board is not settled: the copies are read from the memory.
-fn list_unsettled<E: Element>(page: &mut Vec<u8>, turning: &Turning, plan: &PlanView, table: &LinkTable, values: &[E]) -> Result<(), AllocError> {
+fn list_unsettled<E: Element>(
+    page: &mut Vec<u8>,
+    turning: &Turning,
+    plan: &PlanView,
+    table: &LinkTable,
+    values: &[E],
+) -> Result<(), AllocError> {
     for board in 0..plan.boards() {
         let part = plan.board_part(board);
         let (from, end) = (part.from, part.from + part.count);
@@ -66,14 +84,27 @@ fn list_unsettled<E: Element>(page: &mut Vec<u8>, turning: &Turning, plan: &Plan
             return Ok(());
         }
         if let Ok(report) = turning.report(plan, table, board) {
-            add_board(page, board, report, &plan.copies()[from..end], &values[from..end])?;
+            add_board(
+                page,
+                board,
+                report,
+                &plan.copies()[from..end],
+                &values[from..end],
+            )?;
         }
     }
     Ok(())
 }
 
 // Ends the run if all boards are settled, or else gives it up, and lists it.
-fn list_turned<E: Element>(heap: Global, numbers: PlanNumbers, turning: Turning, plan: &PlanView, table: &LinkTable, values: &[E]) -> Result<Vec<u8>, AllocError> {
+fn list_turned<E: Element>(
+    heap: Global,
+    numbers: PlanNumbers,
+    turning: Turning,
+    plan: &PlanView,
+    table: &LinkTable,
+    values: &[E],
+) -> Result<Vec<u8>, AllocError> {
     let mut page = Vec::new(heap);
     match turning.end(plan, table) {
         Ok(done) => {
@@ -97,7 +128,13 @@ fn list_turned<E: Element>(heap: Global, numbers: PlanNumbers, turning: Turning,
 }
 
 // Runs a scene with elements of one type, and lists what its boards hold at the end.
-fn list_run<E: Element, D: Medium + Drop>(heap: Global, scene: &SceneView, plan: &PlanView, medium: D, values: &mut [E]) -> Result<Vec<u8>, AllocError> {
+fn list_run<E: Element, D: Medium + Drop>(
+    heap: Global,
+    scene: &SceneView,
+    plan: &PlanView,
+    medium: D,
+    values: &mut [E],
+) -> Result<Vec<u8>, AllocError> {
     let mut medium = medium;
     let mut table = LinkTable::new();
     let loaded = match load(scene, plan, values) {
@@ -123,22 +160,59 @@ fn list_run<E: Element, D: Medium + Drop>(heap: Global, scene: &SceneView, plan:
     list_turned(heap, numbers, turning, plan, &table, values)
 }
 
-fn list_plan<'a, D: Medium + Drop>(heap: Global, scene: &SceneView, copies: &'a [CopyRecord], edges: &'a [Edge], medium: D) -> Result<Vec<u8>, AllocError> {
+fn list_plan<'a, D: Medium + Drop>(
+    heap: Global,
+    scene: &SceneView,
+    copies: &'a [CopyRecord],
+    edges: &'a [Edge],
+    medium: D,
+) -> Result<Vec<u8>, AllocError> {
     let mut plan: PlanView = PlanView::new();
     if let Err(fault) = plan.take(scene.boards(), copies, edges) {
         return list_refusal(heap, Refusal::Plan(fault));
     }
     match scene.kind() {
-        1 => list_run(heap, scene, &plan, medium, &mut [Force { x: 0, y: 0, z: 0 }; MEMORY]),
-        2 => list_run(heap, scene, &plan, medium, &mut [Depth { value: 0 }; MEMORY]),
-        _ => list_run(heap, scene, &plan, medium, &mut [Tags { low: 0, high: 0 }; MEMORY]),
+        1 => list_run(
+            heap,
+            scene,
+            &plan,
+            medium,
+            &mut [Force { x: 0, y: 0, z: 0 }; MEMORY],
+        ),
+        2 => list_run(
+            heap,
+            scene,
+            &plan,
+            medium,
+            &mut [Depth { value: 0 }; MEMORY],
+        ),
+        _ => list_run(
+            heap,
+            scene,
+            &plan,
+            medium,
+            &mut [Tags { low: 0, high: 0 }; MEMORY],
+        ),
     }
 }
 
 // The listing of the scene that the bytes say, run over this medium; or the one line of a refusal.
-pub fn list<D: Medium + Drop>(heap: Global, bytes: &[u8], medium: D) -> Result<Vec<u8>, AllocError> {
-    let mut copies = [CopyRecord { board: 0, vertex: 0 }; MEMORY];
-    let mut edges = [Edge { from: 0, to: 0, vertex: 0, leaf: 0, root: 0 }; MEMORY];
+pub fn list<D: Medium + Drop>(
+    heap: Global,
+    bytes: &[u8],
+    medium: D,
+) -> Result<Vec<u8>, AllocError> {
+    let mut copies = [CopyRecord {
+        board: 0,
+        vertex: 0,
+    }; MEMORY];
+    let mut edges = [Edge {
+        from: 0,
+        to: 0,
+        vertex: 0,
+        leaf: 0,
+        root: 0,
+    }; MEMORY];
     let mut scene = SceneView::new();
     match prepare(&mut scene, bytes, &mut copies, &mut edges) {
         Ok(counts) => {

@@ -12,7 +12,11 @@ pub(crate) fn add_line(page: &mut Vec<u8>, line: &Line) -> Result<(), AllocError
 }
 
 // A line for each copy, with what it holds.
-fn add_copies<E: Element>(page: &mut Vec<u8>, records: &[CopyRecord], values: &[E]) -> Result<(), AllocError> {
+fn add_copies<E: Element>(
+    page: &mut Vec<u8>,
+    records: &[CopyRecord],
+    values: &[E],
+) -> Result<(), AllocError> {
     for (record, value) in records.iter().zip(values.iter()) {
         add_line(page, &copy_line(*record, value.pack()))?;
     }
@@ -20,7 +24,13 @@ fn add_copies<E: Element>(page: &mut Vec<u8>, records: &[CopyRecord], values: &[
 }
 
 // A board's own line, then its copies.
-pub(crate) fn add_board<E: Element>(page: &mut Vec<u8>, board: usize, report: Report, records: &[CopyRecord], values: &[E]) -> Result<(), AllocError> {
+pub(crate) fn add_board<E: Element>(
+    page: &mut Vec<u8>,
+    board: usize,
+    report: Report,
+    records: &[CopyRecord],
+    values: &[E],
+) -> Result<(), AllocError> {
     add_line(page, &board_line(board, report))?;
     add_copies(page, records, values)
 }

@@ -23,7 +23,7 @@ pub fn prepare<'a>(
     ensures { λ r. ⌜ elim r [
       | Ok n ↦ (now (scene .exit) .bytes ≡ bytes .entry)
           × Laid (scene-of (now (bytes .entry))) n
-            (now (copies .entry)) (now (copies .exit)) (now (edges .entry)) (now (edges .exit))
+          (now (copies .entry)) (now (copies .exit)) (now (edges .entry)) (now (edges .exit))
       | Err f ↦ Unprepared (now (bytes .entry)) f (now (scene .entry)) (now (scene .exit)) (bytes .entry)
           (now (copies .entry)) (now (copies .exit)) (now (edges .entry)) (now (edges .exit))
     ] ⌝ }

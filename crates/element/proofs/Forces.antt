@@ -47,5 +47,4 @@ force-lawful = record {
   join-zero = same-axes (λ n. n + 0) (λ n h. omega arith);
   unpack-pack = same-axes (λ n. n) axis-of-word;
   pack-unpack = λ w h. rw (axis-of-word (w .x) (h .0), axis-of-word (w .y) (h .1), axis-of-word (w .z) (h .2));
-  used-of-kind = refl;
 }

@@ -13,5 +13,4 @@ tags-lawful = record {
   join-zero = λ a. ap₂ tags (or-zero-r (a .low)) (or-zero-r (a .high));
   unpack-pack = λ a. refl;
   pack-unpack = λ w h. refl;
-  used-of-kind = refl;
 }

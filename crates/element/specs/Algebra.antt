@@ -3,7 +3,6 @@ use mathlib.Core.Path.{_≡_}
 use mathlib.Core.Bool.{cond}
 use Prim.Native.Nat.{ℕ, _^_, _<_}
 use lib.Dec.{ltb}
-use Rattle.element.specs.Kinds.{used-by}
 use Rattle.element.specs.declared.words.Words.{Words}
 
 pub record Algebra (E : Type 0) : Type 0 where
@@ -29,4 +28,3 @@ pub record Lawful {E : Type 0} (A : Algebra E) : Type 0 where
   pub join-zero : (a : E) → A .join a (A .zero) ≡ a
   pub unpack-pack : (a : E) → A .unpack (A .pack a) ≡ a
   pub pack-unpack : (w : Words) → Fits w → A .pack (A .unpack w) ≡ kept (A .used) w
-  pub used-of-kind : A .used ≡ used-by (A .kind)

@@ -90,7 +90,8 @@ module _ (p v : ℕ) (cs : List Cell) (c : Cell) (k : ℕ) (there : k < length (
   pub corner-here : c .board ≡ p → getD (c .corners) k 0 ≡ v
       → so-far (k + 1) ≡ so-far k ++ (getD (c .parts) k no-words ∷ [])
   corner-here e f =
-      corner-more ∙ ap (λ b. so-far k ++ new b) (and-from _ _ (eq-eqb (c .board) p e) (eq-eqb (getD (c .corners) k 0) v f))
+      corner-more ∙ ap (λ b. so-far k ++ new b) (and-from _ _ (eq-eqb (c .board) p e)
+      (eq-eqb (getD (c .corners) k 0) v f))
 
   -- it is elsewhere
   pub corner-else : (c .board ≡ p → getD (c .corners) k 0 ≡ v → ⊥) → so-far (k + 1) ≡ so-far k

@@ -12,7 +12,8 @@ use Rattle.std.specs.shelf.Lists.{All}
 use Rattle.std.specs.declared.option.Option.{Option}
 use Rattle.std.specs.declared.option.Option.the-variants.{Some, None}
 use Rattle.std.proofs.shelf.Elements.{all-weaker, all-getD}
-use Rattle.std.proofs.shelf.Lists.{append-nil, append-assoc, map-append, map-more, take-all, take-more, drop-more, set-at}
+use Rattle.std.proofs.shelf.Lists.{append-nil, append-assoc, map-append, map-more}
+use Rattle.std.proofs.shelf.Lists.{take-all, take-more, drop-more, set-at}
 use Rattle.std.proofs.shelf.Lists.{length-set, length-take-le, length-map, length-replicate}
 use Rattle.std.proofs.shelf.Lists.{getD-set-same, getD-set-other, getD-replicate}
 use Rattle.std.proofs.shelf.Tests.{cases-eq, cases-lt, eq-eqb, ne-eqb, lt-leb, cond-true, cond-false}

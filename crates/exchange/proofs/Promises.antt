@@ -70,12 +70,12 @@ module _ {M : Type 0} (A : Algebra M) (law : Lawful A) (s : Scene) where
       → n ≡ counts A (shape boards edges) (seen A m) (seen A m′) p → Goes-on A s p m m′ (Ok n)
   turn-goes-on boards copies edges plan p m m′ n t e ts book losses r =
       let t′ : Turn A (laid A s) p m m′ =
-          subst (λ b. Turn A (shape b (laid-edges s)) p m m′) (plan .same-boards)
-          (subst (λ es. Turn A (shape boards es) p m m′) (plan .same-edges) t) in
+      subst (λ b. Turn A (shape b (laid-edges s)) p m m′) (plan .same-boards)
+      (subst (λ es. Turn A (shape boards es) p m m′) (plan .same-edges) t) in
       let same : lost A (laid A s) (seen A m) (seen A m′) p ≡ n .lost =
-          ap (λ b. lost A (shape b (laid-edges s)) (seen A m) (seen A m′) p) (sym (plan .same-boards))
-          ∙ ap (λ es. lost A (shape boards es) (seen A m) (seen A m′) p) (sym (plan .same-edges))
-          ∙ ap (λ (k : TurnCounts). k .lost) (sym e) in
+      ap (λ b. lost A (shape b (laid-edges s)) (seen A m) (seen A m′) p) (sym (plan .same-boards))
+      ∙ ap (λ es. lost A (shape boards es) (seen A m) (seen A m′) p) (sym (plan .same-edges))
+      ∙ ap (λ (k : TurnCounts). k .lost) (sym e) in
       let book′ : Book = fed (laid A s) p (m .lanes) book in
       kept (plan .sound) (ts ++ (p ∷ [])) m′ book′ (losses + n .lost)
       (subst (λ k. Run A s (ts ++ (p ∷ [])) m′ book′ (losses + k)) same (turn p m′ r t′))
@@ -94,9 +94,12 @@ module _ {M : Type 0} (A : Algebra M) (law : Lawful A) (s : Scene) where
       → Goes-on A s p m₁ m₂ (Ok n) → Carried A s m m₂ (us ++ (p ∷ []))
   carried-on m m₁ m₂ us p n c t ts book losses r =
       let (book₁, losses₁, k) = c ts book losses r in
-      let book₂ : Book = fed (laid A s) p (m₁ .lanes) book₁ in
-      (book₂, losses₁ + n .lost, subst (λ vs. Kept A s vs m₂ book₂ (losses₁ + n .lost)) (append-assoc ts us (p ∷ []))
-        (t (ts ++ us) book₁ losses₁ (k .run)))
+      let book₂ : Book = fed (laid A s) p (m₁ .lanes) book₁ in (
+        book₂,
+        losses₁ + n .lost,
+        subst (λ vs. Kept A s vs m₂ book₂ (losses₁ + n .lost)) (append-assoc ts us (p ∷ []))
+            (t (ts ++ us) book₁ losses₁ (k .run)),
+      )
 
   -- some turns, then others
   pub carried-further : (m m₁ m₂ : Moment M) (us vs : List ℕ) → Carried A s m m₁ us → Carried A s m₁ m₂ vs

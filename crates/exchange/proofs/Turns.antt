@@ -28,35 +28,41 @@ module _ {M : Type 0} (A : Algebra M) (boards : ℕ) (records : List CopyRecord)
     (taken accepted made lost : ℕ)
     (long : length links ≡ 64) (eight : length got ≡ 8) (room : length records ≤ length copies)
     (first : received links′ copies′ accepted between taken got′
-      ≡ lanes-step A edges p boards (received links copies 0 lanes 0 got))
-    (second : Sent p (due A boards edges p links′ got′) (due-frame A boards edges p links′ copies′) between boards lanes′ made lost)
-    where
-  abbrev numbers : TurnCounts
-  numbers = record { taken = taken; accepted = accepted; puts = made; lost = lost }
+    ≡ lanes-step A edges p boards (received links copies 0 lanes 0 got))
+    (second : Sent p (due A boards edges p links′ got′) (due-frame A boards edges p links′ copies′) between boards
+    lanes′ made lost)
+  where
+    abbrev numbers : TurnCounts
+    numbers = record { taken = taken; accepted = accepted; puts = made; lost = lost }
 
-  below : Below A boards edges p (received links copies 0 lanes 0 got) boards
-      (received links′ copies′ accepted between taken got′)
-  below =
-      let few = boards-within boards records edges sound in
-      subst (Below A boards edges p (received links copies 0 lanes 0 got) boards) (sym first)
-      (received-below A boards edges p (received links copies 0 lanes 0 got) long eight (omega (arith, few .1))
+    below : Below A boards edges p (received links copies 0 lanes 0 got) boards
+        (received links′ copies′ accepted between taken got′)
+    below =
+        let few = boards-within boards records edges sound in
+        subst (Below A boards edges p (received links copies 0 lanes 0 got) boards) (sym first)
+        (received-below A boards edges p (received links copies 0 lanes 0 got) long eight (omega (arith, few .1))
         (λ q l. links-fit boards records edges sound (length copies) room q p) boards (few .1))
 
-  pub numbers-are : numbers
-      ≡ counts A (shape boards edges) (seen A (moment tally links copies lanes))
-          (seen A (moment (tallied numbers tally) links′ copies′ lanes′)) p
-  numbers-are = λ i. record {
-    taken = taken-counted A boards edges p pb tally (tallied numbers tally) links copies lanes lanes′ got _ below made lost second i;
-    accepted = accepted-counted A boards edges p pb tally (tallied numbers tally) links copies lanes lanes′ got _ below made lost second i;
-    puts = puts-counted A boards edges p pb tally (tallied numbers tally) links copies lanes lanes′ got _ below made lost second i;
-    lost = lost-counted A boards edges p pb tally (tallied numbers tally) links copies lanes lanes′ got _ below made lost second i;
-  }
+    pub numbers-are : numbers
+        ≡ counts A (shape boards edges) (seen A (moment tally links copies lanes))
+        (seen A (moment (tallied numbers tally) links′ copies′ lanes′)) p
+    numbers-are = λ i. record {
+      taken = taken-counted A boards edges p pb tally (tallied numbers tally) links copies lanes lanes′ got _ below
+          made lost second i;
+      accepted = accepted-counted A boards edges p pb tally (tallied numbers tally) links copies lanes lanes′ got _
+          below made lost second i;
+      puts = puts-counted A boards edges p pb tally (tallied numbers tally) links copies lanes lanes′ got _ below
+          made lost second i;
+      lost = lost-counted A boards edges p pb tally (tallied numbers tally) links copies lanes lanes′ got _ below
+          made lost second i;
+    }
 
-  pub a-turn : Turn A (shape boards edges) p (moment tally links copies lanes)
-      (moment (tallied numbers tally) links′ copies′ lanes′)
-  a-turn = record {
-    below = pb;
-    turned = turn-made A boards edges p pb tally (tallied numbers tally) links copies lanes lanes′ got _ below made lost second;
-    same-length = below .as-many;
-    counted = ap (λ n. tallied n tally) numbers-are;
-  }
+    pub a-turn : Turn A (shape boards edges) p (moment tally links copies lanes)
+        (moment (tallied numbers tally) links′ copies′ lanes′)
+    a-turn = record {
+      below = pb;
+      turned = turn-made A boards edges p pb tally (tallied numbers tally) links copies lanes lanes′ got _ below made
+          lost second;
+      same-length = below .as-many;
+      counted = ap (λ n. tallied n tally) numbers-are;
+    }

@@ -30,8 +30,8 @@ abbrev pub turn-fault : {M : Type 0} → ℕ → List CopyRecord → ℕ → Mom
 turn-fault boards copies p m =
     cond (ltb p boards)
     (cond (ltb (m .tally .turns) turn-limit)
-      (cond (leb (length copies) (length (m .copies))) None (Some (Short (length copies))))
-      (Some Turns))
+    (cond (leb (length copies) (length (m .copies))) None (Some (Short (length copies))))
+    (Some Turns))
     (Some (Board p))
 
 -- an accepted turn is a turn by the rules and answers its four numbers; a refused one leaves all as it was

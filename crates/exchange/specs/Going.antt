@@ -33,7 +33,8 @@ pub record Own-sums {M : Type 0} (A : Algebra M) (s : Scene) (copies : List M) :
       ≡ own-sum A s (getD (laid-copies s) c no-copy .board) (getD (laid-copies s) c no-copy .vertex)
 
 -- a moment of a run, with all that is promised of it
-pub record Kept {M : Type 0} (A : Algebra M) (s : Scene) (ts : List ℕ) (m : Moment M) (book : Book) (losses : ℕ) : Type 0 where
+pub record Kept {M : Type 0} (A : Algebra M) (s : Scene) (ts : List ℕ) (m : Moment M) (book : Book) (losses : ℕ) :
+    Type 0 where
   pub run : Run A s ts m book losses
   pub promise : Promise A s ts m book losses
 

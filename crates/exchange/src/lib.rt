@@ -1,6 +1,6 @@
 // The exchange: loading, starting, turning, reporting and ending a run.
 pub mod fault;
-pub mod run;
 mod receive;
+pub mod run;
 mod send;
 mod sums;

@@ -2,8 +2,8 @@
 ghost use Prim.Native.Nat.{_≤_, _*_};
 use protocol::tally::Tally;
 
-pub mod load;
 mod end;
+pub mod load;
 mod report;
 mod show;
 mod start;
@@ -17,7 +17,8 @@ pub struct Loaded {
 // The boards turn.
 pub struct Turning {
     tally: Tally,
-    ghost few: { (tally .turns ≤ 1000000) × (tally .puts ≤ 8 * tally .turns) × (tally .lost ≤ tally .puts) × (tally .accepted ≤ 512 * tally .turns) },
+    ghost few: { (tally .turns ≤ 1000000) × (tally .puts ≤ 8 * tally .turns) × (tally .lost ≤ tally .puts) ×
+        (tally .accepted ≤ 512 * tally .turns) },
 }
 
 // Every board is settled.

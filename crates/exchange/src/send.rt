@@ -28,7 +28,8 @@ fn wants(ups: &[Edge], downs: &[Edge], i: usize, gathered: bool) -> bool
 fn item_value<E: Element>(ups: &[Edge], downs: &[Edge], copies: &[E], i: usize) -> E
     requires fit { ⌜ Fit (now ups) (now downs) (length (now copies)) ⌝ }
     requires below { ⌜ i < length (now ups) + length (now downs) ⌝ }
-    ensures { λ r. ⌜ r ≡ item-value (E·Element .algebra) (now (ups .entry)) (now (downs .entry)) i (now (copies .entry)) ⌝ }
+    ensures { λ r. ⌜ r ≡ item-value (E·Element .algebra) (now (ups .entry)) (now (downs .entry)) i
+        (now (copies .entry)) ⌝ }
 {
     if i < ups.len() {
         copies[usize::from(ups[i].leaf)]
@@ -38,14 +39,28 @@ fn item_value<E: Element>(ups: &[Edge], downs: &[Edge], copies: &[E], i: usize) 
 }
 
 // The next frame: i items are known to have arrived there, j were accepted here.
-fn next_frame<E: Element>(ups: &[Edge], downs: &[Edge], copies: &[E], i: usize, j: usize, gathered: bool) -> Frame
+fn next_frame<E: Element>(
+    ups: &[Edge],
+    downs: &[Edge],
+    copies: &[E],
+    i: usize,
+    j: usize,
+    gathered: bool,
+) -> Frame
     requires fit { ⌜ Fit (now ups) (now downs) (length (now copies)) ⌝ }
-    ensures { λ r. ⌜ r ≡ frame-due (E·Element .algebra) (now (ups .entry)) (now (downs .entry)) i j gathered (now (copies .entry)) ⌝ }
+    ensures { λ r. ⌜ r ≡ frame-due (E·Element .algebra) (now (ups .entry)) (now (downs .entry)) i j gathered
+        (now (copies .entry)) ⌝ }
 {
     let reply = j % 2 == 1;
     if wants(ups, downs, i, gathered) {
         let value = item_value(ups, downs, copies, i);
-        Frame { reply, item: Some(Item { bit: i % 2 == 1, words: value.pack() }) }
+        Frame {
+            reply,
+            item: Some(Item {
+                bit: i % 2 == 1,
+                words: value.pack(),
+            }),
+        }
     } else {
         Frame { reply, item: None }
     }
@@ -59,22 +74,42 @@ pub(crate) struct Spoke {
 }
 
 // Board p's put to board q, if one is due: an item, or a reply to items that came.
-fn speak<E: Element, D: Medium>(ups: &[Edge], downs: &[Edge], medium: &mut D, copies: &[E], p: usize, q: usize, i: usize, j: usize, gathered: bool, got: bool) -> Spoke
+fn speak<E: Element, D: Medium>(
+    ups: &[Edge],
+    downs: &[Edge],
+    medium: &mut D,
+    copies: &[E],
+    p: usize,
+    q: usize,
+    i: usize,
+    j: usize,
+    gathered: bool,
+    got: bool,
+) -> Spoke
     requires fit { ⌜ Fit (now ups) (now downs) (length (now copies)) ⌝ }
-    ensures { λ r. ⌜ Spoken p q (item-due (now (ups .entry)) (now (downs .entry)) i gathered || got) (frame-due (E·Element .algebra) (now (ups .entry)) (now (downs .entry)) i j gathered (now (copies .entry))) (D·Medium .lanes (now (medium .entry))) (D·Medium .lanes (now (medium .exit))) (r .made) (r .lost) ⌝ }
+    ensures { λ r. ⌜ Spoken p q (item-due (now (ups .entry)) (now (downs .entry)) i gathered || got)
+        (frame-due (E·Element .algebra) (now (ups .entry)) (now (downs .entry)) i j gathered (now (copies .entry)))
+        (D·Medium .lanes (now (medium .entry))) (D·Medium .lanes (now (medium .exit))) (r .made) (r .lost) ⌝ }
 {
     if !(wants(ups, downs, i, gathered) | got) {
-        return Spoke { made: false, lost: false };
+        return Spoke {
+            made: false,
+            lost: false,
+        };
     }
     let frame = next_frame(ups, downs, copies, i, j, gathered);
     let left = medium.put(p, q, frame);
-    Spoke { made: true, lost: left == 0 }
+    Spoke {
+        made: true,
+        lost: left == 0,
+    }
 }
 
 // Whether board p has accepted all that rises to it from board q.
 fn heard_all(plan: &PlanView, table: &LinkTable, p: usize, q: usize) -> bool
     requires { ⌜ (p < 8) × (q < 8) ⌝ }
-    ensures { λ r. ⌜ r ≡ (eqb q p || leb (length (edges-between (now (now (plan .entry) .edges)) q p)) (accepted-in (now (table .entry) .links) q p)) ⌝ }
+    ensures { λ r. ⌜ r ≡ (eqb q p || leb (length (edges-between (now (now (plan .entry) .edges)) q p))
+        (accepted-in (now (table .entry) .links) q p)) ⌝ }
 {
     q == p || plan.edges_between(q, p).len() <= table.links[8 * q + p].j
 }
@@ -82,7 +117,9 @@ fn heard_all(plan: &PlanView, table: &LinkTable, p: usize, q: usize) -> bool
 // Whether board p has accepted all that rises to it.
 fn has_gathered(plan: &PlanView, table: &LinkTable, p: usize) -> bool
     requires { ⌜ p < now plan .boards ⌝ }
-    ensures { λ r. ⌜ r ≡ others p (now (plan .entry) .boards) (λ q. leb (length (edges-between (now (now (plan .entry) .edges)) q p)) (accepted-in (now (table .entry) .links) q p)) ⌝ }
+    ensures { λ r. ⌜ r ≡ others p (now (plan .entry) .boards)
+        (λ q. leb (length (edges-between (now (now (plan .entry) .edges)) q p))
+        (accepted-in (now (table .entry) .links) q p)) ⌝ }
 {
     let boards = plan.boards();
     let mut all = true;
@@ -93,15 +130,35 @@ fn has_gathered(plan: &PlanView, table: &LinkTable, p: usize) -> bool
 }
 
 // Board p's put to board q, unless that is p itself.
-fn speak_to<E: Element, D: Medium>(plan: &PlanView, table: &LinkTable, medium: &mut D, copies: &[E], p: usize, q: usize, gathered: bool, got: &[bool]) -> Spoke
+fn speak_to<E: Element, D: Medium>(
+    plan: &PlanView,
+    table: &LinkTable,
+    medium: &mut D,
+    copies: &[E],
+    p: usize,
+    q: usize,
+    gathered: bool,
+    got: &[bool],
+) -> Spoke
     requires boards { ⌜ (p < 8) × (q < 8) ⌝ }
     requires room { ⌜ length (now (now plan .copies)) ≤ length (now copies) ⌝ }
     requires eight { ⌜ length (now got) ≡ 8 ⌝ }
-    ensures itself { λ r. ⌜ (q ≡ p → (r .made ≡ false) × (r .lost ≡ false) × (D·Medium .lanes (now (medium .exit)) ≡ D·Medium .lanes (now (medium .entry)))) ⌝ }
-    ensures other { λ r. ⌜ ((q ≡ p → ⊥) → Spoken p q (item-due (edges-between (now (now (plan .entry) .edges)) p q) (edges-between (now (now (plan .entry) .edges)) q p) (link-at (now (table .entry) .links) p q .i) gathered || getD (now (got .entry)) q false) (frame-due (E·Element .algebra) (edges-between (now (now (plan .entry) .edges)) p q) (edges-between (now (now (plan .entry) .edges)) q p) (link-at (now (table .entry) .links) p q .i) (link-at (now (table .entry) .links) q p .j) gathered (now (copies .entry))) (D·Medium .lanes (now (medium .entry))) (D·Medium .lanes (now (medium .exit))) (r .made) (r .lost)) ⌝ }
+    ensures itself { λ r. ⌜ (q ≡ p → (r .made ≡ false) × (r .lost ≡ false) ×
+        (D·Medium .lanes (now (medium .exit)) ≡ D·Medium .lanes (now (medium .entry)))) ⌝ }
+    ensures other { λ r. ⌜ ((q ≡ p → ⊥) → Spoken p q
+        (item-due (edges-between (now (now (plan .entry) .edges)) p q)
+        (edges-between (now (now (plan .entry) .edges)) q p) (link-at (now (table .entry) .links) p q .i) gathered ||
+        getD (now (got .entry)) q false) (frame-due (E·Element .algebra)
+        (edges-between (now (now (plan .entry) .edges)) p q) (edges-between (now (now (plan .entry) .edges)) q p)
+        (link-at (now (table .entry) .links) p q .i) (link-at (now (table .entry) .links) q p .j) gathered
+        (now (copies .entry))) (D·Medium .lanes (now (medium .entry))) (D·Medium .lanes (now (medium .exit)))
+        (r .made) (r .lost)) ⌝ }
 {
     if q == p {
-        return Spoke { made: false, lost: false };
+        return Spoke {
+            made: false,
+            lost: false,
+        };
     }
     let ups = plan.edges_between(p, q);
     let downs = plan.edges_between(q, p);
@@ -118,11 +175,22 @@ pub(crate) struct Puts {
 }
 
 // Board p puts what is due to each other board, in ascending order.
-pub(crate) fn send<E: Element, D: Medium>(plan: &PlanView, table: &LinkTable, medium: &mut D, copies: &[E], p: usize, got: &[bool]) -> Puts
+pub(crate) fn send<E: Element, D: Medium>(
+    plan: &PlanView,
+    table: &LinkTable,
+    medium: &mut D,
+    copies: &[E],
+    p: usize,
+    got: &[bool],
+) -> Puts
     requires board { ⌜ p < now plan .boards ⌝ }
     requires room { ⌜ length (now (now plan .copies)) ≤ length (now copies) ⌝ }
     requires eight { ⌜ length (now got) ≡ 8 ⌝ }
-    ensures after { λ r. ⌜ Sent p (due (E·Element .algebra) (now (plan .entry) .boards) (now (now (plan .entry) .edges)) p (now (table .entry) .links) (now (got .entry))) (due-frame (E·Element .algebra) (now (plan .entry) .boards) (now (now (plan .entry) .edges)) p (now (table .entry) .links) (now (copies .entry))) (D·Medium .lanes (now (medium .entry))) (now (plan .entry) .boards) (D·Medium .lanes (now (medium .exit))) (r .made) (r .lost) ⌝ }
+    ensures after { λ r. ⌜ Sent p (due (E·Element .algebra) (now (plan .entry) .boards)
+        (now (now (plan .entry) .edges)) p (now (table .entry) .links) (now (got .entry)))
+        (due-frame (E·Element .algebra) (now (plan .entry) .boards) (now (now (plan .entry) .edges)) p
+        (now (table .entry) .links) (now (copies .entry))) (D·Medium .lanes (now (medium .entry)))
+        (now (plan .entry) .boards) (D·Medium .lanes (now (medium .exit))) (r .made) (r .lost) ⌝ }
     ensures few { λ r. ⌜ (r .lost ≤ r .made) × (r .made ≤ 8) ⌝ }
 {
     let boards = plan.boards();

@@ -17,6 +17,10 @@ fn main(rt: LibcRuntime) -> io::Result<()> {
     let Ok(limit) = Limit::new(8) else {
         return Ok(());
     };
-    let page = list(rt.alloc(), &bytes, Script::over(Quota::over(Queue::new(), limit)))?;
+    let page = list(
+        rt.alloc(),
+        &bytes,
+        Script::over(Quota::over(Queue::new(), limit)),
+    )?;
     rt.stdout().write_all(&page)
 }

@@ -91,8 +91,8 @@ some-item-next b c lane here k h e =
     ap (λ x. x || some-item (drop (k + 1) lane)) (e ∙ ap (λ x. b || some-item (take 1 x)) h)
     ∙ or-assoc b (some-item (take 1 (drop k lane))) (some-item (drop (k + 1) lane))
     ∙ ap (λ x. b || x) (sym (some-item-append (take 1 (drop k lane)) (drop (k + 1) lane))
-      ∙ ap (λ r. some-item (take 1 (drop k lane) ++ r)) (sym (drop-drop 1 k lane))
-      ∙ ap some-item (take-append-drop 1 (drop k lane)))
+    ∙ ap (λ r. some-item (take 1 (drop k lane) ++ r)) (sym (drop-drop 1 k lane))
+    ∙ ap some-item (take-append-drop 1 (drop k lane)))
 
 module _ {M : Type 0} (A : Algebra M) (ups downs : List Edge) (p q : ℕ) where
   abbrev steps : List Frame → Held M → Held M

@@ -136,27 +136,31 @@ module _ {M : Type 0} (A : Algebra M) (boards : ℕ) (edges : List Edge) (p : �
       same-frames = v .lanes-rest k p (inr (inr (omega arith)))
 
       i-at : (a b : ℕ) → (a ≡ p → b ≡ k → ⊥) → link-at (h″ .links) a b .i ≡ link-at (h .links) a b .i
-      i-at a b other = same-link (h .links) (h″ .links) (λ (x : Link). x .i) a b (λ la lb. elim (cases-eq (8 * a + b) (8 * k + p)) [
-        | inl e ↦ rw e (ap (λ (x : Link). x .i) (t .brought))
-        | inr d ↦ ap (λ (x : Link). x .i) (t .elsewhere (8 * a + b) (λ e. other (omega arith) (omega arith)) d)
-      ])
+      i-at a b other = same-link (h .links) (h″ .links) (λ (x : Link). x .i) a b
+          (λ la lb. elim (cases-eq (8 * a + b) (8 * k + p)) [
+            | inl e ↦ rw e (ap (λ (x : Link). x .i) (t .brought))
+            | inr d ↦ ap (λ (x : Link). x .i) (t .elsewhere (8 * a + b) (λ e. other (omega arith) (omega arith)) d)
+          ])
 
       j-at : (a b : ℕ) → (a ≡ k → b ≡ p → ⊥) → link-at (h″ .links) a b .j ≡ link-at (h .links) a b .j
-      j-at a b other = same-link (h .links) (h″ .links) (λ (x : Link). x .j) a b (λ la lb. elim (cases-eq (8 * a + b) (8 * p + k)) [
-        | inl e ↦ rw e (ap (λ (x : Link). x .j) (t .replies))
-        | inr d ↦ ap (λ (x : Link). x .j) (t .elsewhere (8 * a + b) d (λ e. other (omega arith) (omega arith)))
-      ])
+      j-at a b other = same-link (h .links) (h″ .links) (λ (x : Link). x .j) a b
+          (λ la lb. elim (cases-eq (8 * a + b) (8 * p + k)) [
+            | inl e ↦ rw e (ap (λ (x : Link). x .j) (t .replies))
+            | inr d ↦ ap (λ (x : Link). x .j) (t .elsewhere (8 * a + b) d (λ e. other (omega arith) (omega arith)))
+          ])
 
       i-here : link-at (h″ .links) p k .i ≡ scan (tells-of (items P p k)) (link-at links p k .i) (r .lanes k p)
       i-here =
           ap (λ (x : Link). x .i) (link-here (h″ .links) p k pb kb ∙ t .replies)
-          ∙ ap (λ x. scan (tells-of x) (getD (h .links) (8 * p + k) no-link .i) (r′ .lanes k p)) (add-comm (P .up k p) (P .up p k))
+          ∙ ap (λ x. scan (tells-of x) (getD (h .links) (8 * p + k) no-link .i) (r′ .lanes k p))
+          (add-comm (P .up k p) (P .up p k))
           ∙ ap (λ x. scan (tells-of (items P p k)) x (r′ .lanes k p))
-              (ap (λ (x : Link). x .i) (sym (link-here (h .links) p k pb kb)) ∙ v .i-rest p k (inr (inr (omega arith))))
+          (ap (λ (x : Link). x .i) (sym (link-here (h .links) p k pb kb)) ∙ v .i-rest p k (inr (inr (omega arith))))
           ∙ ap (scan (tells-of (items P p k)) (link-at links p k .i)) same-frames
 
       before-j : getD (h .links) (8 * k + p) no-link .j ≡ j k p
-      before-j = ap (λ (x : Link). x .j) (sym (link-here (h .links) k p kb pb)) ∙ v .j-rest k p (inr (inr (omega arith)))
+      before-j = ap (λ (x : Link). x .j) (sym (link-here (h .links) k p kb pb)) ∙ v .j-rest k p
+          (inr (inr (omega arith)))
 
       j-here : link-at (h″ .links) k p .j ≡ scan (brings (items P k p)) (j k p) (r .lanes k p)
       j-here =
@@ -173,13 +177,15 @@ module _ {M : Type 0} (A : Algebra M) (boards : ℕ) (edges : List Edge) (p : �
       counted : h″ .accepted ≡ r .held .accepted
           + (sum-others p k (λ q. link-at (h″ .links) q p .j - j q p) + (link-at (h″ .links) k p .j - j k p))
       counted =
-          let same : sum-others p k (λ q. link-at (h″ .links) q p .j - j q p) ≡ sum-others p k (λ q. link-at (h .links) q p .j - j q p) =
-              sum-others-same p k _ _ (λ q l d. ap (λ x. x - j q p) (j-at q p (λ e _. omega arith))) in
-          let grown : j k p ≤ scan (brings (items P k p)) (j k p) (r .lanes k p) = scan-grows (brings (items P k p)) (j k p) (r .lanes k p) in
+          let same : sum-others p k (λ q. link-at (h″ .links) q p .j - j q p) ≡ sum-others p k
+          (λ q. link-at (h .links) q p .j - j q p) =
+          sum-others-same p k _ _ (λ q l d. ap (λ x. x - j q p) (j-at q p (λ e _. omega arith))) in
+          let grown : j k p ≤ scan (brings (items P k p)) (j k p) (r .lanes k p) = scan-grows (brings (items P k p))
+          (j k p) (r .lanes k p) in
           let more : h″ .accepted + j k p ≡ h .accepted + scan (brings (items P k p)) (j k p) (r .lanes k p) =
-              ap (λ x. h″ .accepted + x) (sym before-j) ∙ t .more
-              ∙ ap (λ x. h .accepted + x) (ap (λ x. scan (brings (items P k p)) x (r′ .lanes k p)) before-j
-                ∙ ap (scan (brings (items P k p)) (j k p)) same-frames) in
+          ap (λ x. h″ .accepted + x) (sym before-j) ∙ t .more
+          ∙ ap (λ x. h .accepted + x) (ap (λ x. scan (brings (items P k p)) x (r′ .lanes k p)) before-j
+          ∙ ap (scan (brings (items P k p)) (j k p)) same-frames) in
           omega (arith, same, grown, more, j-here, v .items-in)
 
       pub below-more : Below (suc k) (lane-step A edges p k r′)
@@ -189,27 +195,39 @@ module _ {M : Type 0} (A : Algebra M) (boards : ℕ) (edges : List Edge) (p : �
           | inl e ↦ rw e i-here
           | inr c ↦ i-at p q (λ _ e. c e) ∙ v .i-own q (omega arith) d
         ];
-        i-rest = λ a b x. i-at a b (λ e f. elim x [ inl y ↦ y e | inr y ↦ elim y [ inl z ↦ kp (sym f ∙ z) | inr z ↦ omega arith ] ])
-          ∙ v .i-rest a b (later b x);
+        i-rest = λ a b x. i-at a b (λ e f. elim x [
+          | inl y ↦ y e
+          | inr y ↦ elim y
+              [ inl z ↦ kp (sym f ∙ z) | inr z ↦ omega arith ]
+        ])
+            ∙ v .i-rest a b (later b x);
         j-own = λ q l d. elim (cases-eq q k) [
           | inl e ↦ rw e j-here
           | inr c ↦ j-at q p (λ e _. c e) ∙ v .j-own q (omega arith) d
         ];
-        j-rest = λ a b x. j-at a b (λ e f. elim x [ inl y ↦ y f | inr y ↦ elim y [ inl z ↦ kp (sym e ∙ z) | inr z ↦ omega arith ] ])
-          ∙ v .j-rest a b (later a x);
+        j-rest = λ a b x. j-at a b (λ e f. elim x [
+          | inl y ↦ y f
+          | inr y ↦ elim y
+              [ inl z ↦ kp (sym e ∙ z) | inr z ↦ omega arith ]
+        ])
+            ∙ v .j-rest a b (later a x);
         copied = t .copied
-          ∙ ap (λ x. takes A P p k x (view A (h .copies)) (r′ .lanes k p)) before-j
-          ∙ ap (λ x. takes A P p k (j k p) x (r′ .lanes k p)) (v .copied)
-          ∙ ap (takes A P p k (j k p) (takes-all A P p k j (r .lanes) (view A (r .held .copies)))) same-frames
-          ∙ rw (ne-eqb k p kp) refl;
+            ∙ ap (λ x. takes A P p k x (view A (h .copies)) (r′ .lanes k p)) before-j
+            ∙ ap (λ x. takes A P p k (j k p) x (r′ .lanes k p)) (v .copied)
+            ∙ ap (takes A P p k (j k p) (takes-all A P p k j (r .lanes) (view A (r .held .copies)))) same-frames
+            ∙ rw (ne-eqb k p kp) refl;
         as-many = t .as-many ∙ v .as-many;
         emptied-own = λ q l d. elim (cases-eq q k) [
           | inl e ↦ rw (eq-eqb q k e, eq-eqb p p refl) refl
           | inr c ↦ not-this-lane q p (λ e _. c e) ∙ v .emptied-own q (omega arith) d
         ];
         lanes-rest = λ a b x.
-          not-this-lane a b (λ e f. elim x [ inl y ↦ y f | inr y ↦ elim y [ inl z ↦ kp (sym e ∙ z) | inr z ↦ omega arith ] ])
-          ∙ v .lanes-rest a b (later a x);
+            not-this-lane a b (λ e f. elim x [
+              | inl y ↦ y f
+              | inr y ↦ elim y
+                  [ inl z ↦ kp (sym e ∙ z) | inr z ↦ omega arith ]
+            ])
+            ∙ v .lanes-rest a b (later a x);
         frames = rw (ne-eqb k p kp) (omega (arith, v .frames, ap length same-frames));
         items-in = rw (ne-eqb k p kp) counted;
         got-long = length-set (r′ .got) k _ ∙ v .got-long;
@@ -228,5 +246,6 @@ module _ {M : Type 0} (A : Algebra M) (boards : ℕ) (edges : List Edge) (p : �
       let v = received-below long eight pb fits k (omega arith) in
       elim (cases-eq k p) [
         | inl e ↦ rw (eq-eqb k p e) (below-itself k (lanes-step A edges p k r) v e)
-        | inr d ↦ rw (ne-eqb k p d) (below-more k (lanes-step A edges p k r) v d (omega arith) pb (fits k (omega arith)))
+        | inr d ↦ rw (ne-eqb k p d) (below-more k (lanes-step A edges p k r) v d (omega arith) pb
+            (fits k (omega arith)))
       ]

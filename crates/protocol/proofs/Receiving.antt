@@ -68,9 +68,17 @@ module _ {M : Type 0} (A : Algebra M) (boards : ℕ) (edges : List Edge) (p q : 
   pub record Taken (fs : List Frame) (h h′ : Held M) : Type 0 where
     pub long : length (h′ .links) ≡ length (h .links)
     pub replies : getD (h′ .links) (8 * p + q) no-link
-        ≡ record { i = scan (tells-of n) (getD (h .links) (8 * p + q) no-link .i) fs; j = getD (h .links) (8 * p + q) no-link .j }
+        ≡ record {
+          i = scan (tells-of n) (getD (h .links) (8 * p + q) no-link .i) fs;
+          j = getD (h .links) (8 * p + q)
+              no-link .j;
+        }
     pub brought : getD (h′ .links) (8 * q + p) no-link
-        ≡ record { i = getD (h .links) (8 * q + p) no-link .i; j = scan (brings n) (getD (h .links) (8 * q + p) no-link .j) fs }
+        ≡ record {
+          i = getD (h .links) (8 * q + p) no-link .i;
+          j = scan (brings n)
+              (getD (h .links) (8 * q + p) no-link .j) fs;
+        }
     pub elsewhere : (k : ℕ) → k ≢ 8 * p + q → k ≢ 8 * q + p → getD (h′ .links) k no-link ≡ getD (h .links) k no-link
     pub copied : view A (h′ .copies) ≡ takes A P p q (getD (h .links) (8 * q + p) no-link .j) (view A (h .copies)) fs
     pub as-many : length (h′ .copies) ≡ length (h .copies)
@@ -105,7 +113,8 @@ module _ {M : Type 0} (A : Algebra M) (boards : ℕ) (edges : List Edge) (p q : 
           getD-set-same told-links (8 * q + p) _ no-link (omega (arith, told-long, long .1))
           ∙ ap (grown n f) (told-else (8 * q + p) (λ e. apart (sym e)))
 
-      pub step-elsewhere : (k : ℕ) → k ≢ 8 * p + q → k ≢ 8 * q + p → getD (h′ .links) k no-link ≡ getD (h .links) k no-link
+      pub step-elsewhere : (k : ℕ) → k ≢ 8 * p + q → k ≢ 8 * q + p → getD (h′ .links) k no-link ≡ getD (h .links) k
+          no-link
       step-elsewhere k d e = getD-set-other told-links (8 * q + p) k _ no-link e ∙ told-else k d
 
       abbrev j : ℕ
@@ -114,9 +123,11 @@ module _ {M : Type 0} (A : Algebra M) (boards : ℕ) (edges : List Edge) (p q : 
       same-j : getD told-links (8 * q + p) no-link .j ≡ j
       same-j = ap (λ (x : Link). x .j) (told-else (8 * q + p) (λ e. apart (sym e)))
 
-      pub step-copies : h′ .copies ≡ cond (brings n j f) (accepted-copies A ups downs j (words-of (f .item)) (h .copies)) (h .copies)
+      pub step-copies : h′ .copies ≡ cond (brings n j f)
+          (accepted-copies A ups downs j (words-of (f .item)) (h .copies)) (h .copies)
       step-copies =
-          ap (λ x. cond (brings n x f) (accepted-copies A ups downs x (words-of (f .item)) (h .copies)) (h .copies)) same-j
+          ap (λ x. cond (brings n x f) (accepted-copies A ups downs x (words-of (f .item)) (h .copies)) (h .copies))
+          same-j
 
       pub step-accepted : h′ .accepted ≡ cond (brings n j f) (suc (h .accepted)) (h .accepted)
       step-accepted = ap (λ x. cond (brings n x f) (suc (h .accepted)) (h .accepted)) same-j
@@ -141,35 +152,39 @@ module _ {M : Type 0} (A : Algebra M) (boards : ℕ) (edges : List Edge) (p q : 
         let b : Bool = brings n j₀ f in
         let len : length (h₁ .links) ≡ length (h .links) = step-long f h long in
         let many : length (h₁ .copies) ≡ length (h .copies) =
-            ap length (step-copies f h long) ∙ elim (cases-bool b) [
-              | inl e ↦ rw e (accepted-length j₀ (words-of (f .item)) (h .copies))
-              | inr e ↦ rw e refl
-            ] in
+        ap length (step-copies f h long) ∙ elim (cases-bool b) [
+          | inl e ↦ rw e (accepted-length j₀ (words-of (f .item)) (h .copies))
+          | inr e ↦ rw e refl
+        ] in
         let v : Taken fs h₁ (frames-step A ups downs p q fs h₁) =
-            taken fs h₁ (omega (arith, len), omega (arith, len)) (rw many fit) in
-        let jj : getD (h₁ .links) (8 * q + p) no-link .j ≡ cond b (suc j₀) j₀ = ap (λ (x : Link). x .j) (step-brought f h long) in
+        taken fs h₁ (omega (arith, len), omega (arith, len)) (rw many fit) in
+        let jj : getD (h₁ .links) (8 * q + p) no-link .j ≡ cond b (suc j₀) j₀ = ap (λ (x : Link). x .j)
+        (step-brought f h long) in
         record {
           long = v .long ∙ len;
-          replies = v .replies ∙ ap (λ (x : Link). record { i = scan (tells-of n) (x .i) fs; j = x .j }) (step-replies f h long);
-          brought = v .brought ∙ ap (λ (x : Link). record { i = x .i; j = scan (brings n) (x .j) fs }) (step-brought f h long);
+          replies = v .replies ∙ ap (λ (x : Link). record { i = scan (tells-of n) (x .i) fs; j = x .j })
+              (step-replies f h long);
+          brought = v .brought ∙ ap (λ (x : Link). record { i = x .i; j = scan (brings n) (x .j) fs })
+              (step-brought f h long);
           elsewhere = λ k d e. v .elsewhere k d e ∙ step-elsewhere f h long k d e;
           copied = v .copied
-            ∙ ap (λ x. takes A P p q x (view A (h₁ .copies)) fs) jj
-            ∙ ap (λ x. takes A P p q (cond b (suc j₀) j₀) x fs) (ap (view A) (step-copies f h long) ∙ elim (cases-bool b) [
-              | inl e ↦ rw e (accepted-view j₀ (words-of (f .item)) (h .copies) fit (brings-below j₀ f e))
-              | inr e ↦ rw e refl
-            ]);
+              ∙ ap (λ x. takes A P p q x (view A (h₁ .copies)) fs) jj
+              ∙ ap (λ x. takes A P p q (cond b (suc j₀) j₀) x fs)
+              (ap (view A) (step-copies f h long) ∙ elim (cases-bool b) [
+                | inl e ↦ rw e (accepted-view j₀ (words-of (f .item)) (h .copies) fit (brings-below j₀ f e))
+                | inr e ↦ rw e refl
+              ]);
           as-many = v .as-many ∙ many;
           more = elim (cases-bool b) [
             | inl e ↦
                 let one : getD (h₁ .links) (8 * q + p) no-link .j ≡ suc j₀ = jj ∙ ap (λ x. cond x (suc j₀) j₀) e in
                 let two : h₁ .accepted ≡ suc (h .accepted) =
-                    step-accepted f h long ∙ ap (λ x. cond x (suc (h .accepted)) (h .accepted)) e in
+                step-accepted f h long ∙ ap (λ x. cond x (suc (h .accepted)) (h .accepted)) e in
                 rw e (omega (arith, v .more, one, two, ap (λ x. scan (brings n) x fs) one))
             | inr e ↦
                 let one : getD (h₁ .links) (8 * q + p) no-link .j ≡ j₀ = jj ∙ ap (λ x. cond x (suc j₀) j₀) e in
                 let two : h₁ .accepted ≡ h .accepted =
-                    step-accepted f h long ∙ ap (λ x. cond x (suc (h .accepted)) (h .accepted)) e in
+                step-accepted f h long ∙ ap (λ x. cond x (suc (h .accepted)) (h .accepted)) e in
                 rw e (omega (arith, v .more, one, two, ap (λ x. scan (brings n) x fs) one))
           ];
         }

@@ -39,7 +39,7 @@ pub put-speaks : (p q : ℕ) (f g : Frame) (k : ℕ) (lanes lanes′ : Lanes) (d
     → lanes′ ≡ appended lanes p q f k → f ≡ g → due ≡ true → Spoken p q due g lanes lanes′ true (eqb k 0)
 put-speaks p q f g k lanes lanes′ due after same is =
     let here : lanes′ p q ≡ lanes p q ++ replicate k f =
-        ap (λ l. l p q) after ∙ cond-true (same-lane p q p q) _ _ (same-lane-self p q) in
+    ap (λ l. l p q) after ∙ cond-true (same-lane p q p q) _ _ (same-lane-self p q) in
     let left : length (lanes′ p q) - length (lanes p q) ≡ k = grown-by (lanes p q) (lanes′ p q) k f here in
     record {
       sent = here ∙ rw (left, same) refl;
@@ -93,16 +93,24 @@ module _ (p : ℕ) (due : ℕ → Bool) (frame : ℕ → Frame) (lanes : Lanes) 
           | inr c ↦ same-left q (omega arith) ∙ v .still q (omega arith) d n
         ];
         rest = λ a b h.
-          s .elsewhere a b (λ e f. elim h [ inl y ↦ y e | inr y ↦ elim y [ inl z ↦ kp (sym f ∙ z) | inr z ↦ omega arith ] ])
-          ∙ v .rest a b (later b h);
+            s .elsewhere a b (λ e f. elim h [
+              | inl y ↦ y e
+              | inr y ↦ elim y
+                  [ inl z ↦ kp (sym f ∙ z) | inr z ↦ omega arith ]
+            ])
+            ∙ v .rest a b (later b h);
         made-is = rw (ne-eqb k p kp)
-          (omega (arith, v .made-is, byte-cond m, ap flag (s .made-is)));
+            (omega (arith, v .made-is, byte-cond m, ap flag (s .made-is)));
         lost-is = rw (ne-eqb k p kp)
-          (omega (arith, v .lost-is, byte-cond l,
-            ap flag (s .lost-is ∙ ap (λ x. due k && eqb x 0) here-left),
-            sum-others-same p k (λ q. cond (due q && eqb (length (lanes″ p q) - length (lanes p q)) 0) 1 0)
-              (λ q. cond (due q && eqb (length (lanes′ p q) - length (lanes p q)) 0) 1 0)
-              (λ q b d. ap (λ x. flag (due q && eqb (length x - length (lanes p q)) 0)) (same-left q b))));
+            (omega (
+              arith,
+              v .lost-is,
+              byte-cond l,
+              ap flag (s .lost-is ∙ ap (λ x. due k && eqb x 0) here-left),
+              sum-others-same p k (λ q. cond (due q && eqb (length (lanes″ p q) - length (lanes p q)) 0) 1 0)
+                  (λ q. cond (due q && eqb (length (lanes′ p q) - length (lanes p q)) 0) 1 0)
+                  (λ q b d. ap (λ x. flag (due q && eqb (length x - length (lanes p q)) 0)) (same-left q b)),
+            ));
       }
 
     -- the next board, whichever it is

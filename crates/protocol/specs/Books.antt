@@ -1,4 +1,5 @@
--- The book: a count for each link, fed from the lanes alone; what a board lacks by such counts, and what a report says.
+-- The book: a count for each link, fed from the lanes alone; what a board lacks by such counts, and what a report
+-- says.
 use mathlib.Core.List.{List}
 use mathlib.Core.Bool.{Bool, true, false, not, _&&_, cond}
 use Prim.Native.Nat.{ℕ, _-_, _≤_, _<_}

@@ -107,7 +107,8 @@ module _ {M : Type 0} (A : Algebra M) (edges : List Edge) where
   lanes-step p zero r = r
   lanes-step p (suc k) r = cond (eqb k p) (lanes-step p k r) (lane-step p k (lanes-step p k r))
 
--- an item is sent: number i of those that rise along `ups` and come down along `downs`, the latter once all has gathered
+-- an item is sent: number i of those that rise along `ups` and come down along `downs`, the latter once all has
+-- gathered
 abbrev pub item-due : List Edge → List Edge → ℕ → Bool → Bool
 item-due ups downs i all = ltb i (length ups + length downs) && (ltb i (length ups) || all)
 
@@ -133,13 +134,13 @@ module _ {M : Type 0} (A : Algebra M) (boards : ℕ) (edges : List Edge) (p : �
   abbrev pub due : List Link → List Bool → ℕ → Bool
   due links got q =
       item-due (edges-between edges p q) (edges-between edges q p) (link-at links p q .i)
-        (gathered A (shape boards edges) (accepted-in links) p)
+      (gathered A (shape boards edges) (accepted-in links) p)
       || getD got q false
 
   abbrev pub due-frame : List Link → List M → ℕ → Frame
   due-frame links copies q =
       frame-due A (edges-between edges p q) (edges-between edges q p) (link-at links p q .i) (link-at links q p .j)
-        (gathered A (shape boards edges) (accepted-in links) p) copies
+      (gathered A (shape boards edges) (accepted-in links) p) copies
 
 -- board p's puts to the boards below k, by what they left in the lanes
 pub record Sent (p : ℕ) (due : ℕ → Bool) (frame : ℕ → Frame) (lanes : Lanes) (k : ℕ) (lanes′ : Lanes) (made lost : ℕ)

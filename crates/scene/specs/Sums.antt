@@ -17,7 +17,8 @@ at-vertex v (x ∷ xs) (p ∷ ps) = cond (eqb x v) (p ∷ at-vertex v xs ps) (at
 -- the contributions at v in those cells that pass, in the scene's order
 abbrev pub contributions : (Cell → Bool) → ℕ → List Cell → List Words
 contributions t v [] = []
-contributions t v (c ∷ cs) = cond (t c) (at-vertex v (c .corners) (c .parts) ++ contributions t v cs) (contributions t v cs)
+contributions t v (c ∷ cs) = cond (t c) (at-vertex v (c .corners) (c .parts) ++ contributions t v cs)
+    (contributions t v cs)
 
 -- what board p's own cells contribute at v, joined
 abbrev pub own-sum : {E : Type 0} → Algebra E → Scene → ℕ → ℕ → E

@@ -7,19 +7,20 @@ ghost use Rattle.std.specs.declared.result.Result.the-variants.{Ok, Err};
 ghost use Rattle.plan.specs.Links.{shape};
 ghost use Rattle.protocol.specs.Books.{lowest-unsettled};
 ghost use Rattle.protocol.specs.Runs.{accepted-in};
+use super::Ended;
+use super::Loaded;
+use super::Turning;
+use super::report::report_on;
 use crate::fault::RunFault;
 use plan::view::PlanView;
 use protocol::table::LinkTable;
 use protocol::tally::Report;
 use protocol::tally::Tally;
-use super::Ended;
-use super::Loaded;
-use super::Turning;
-use super::report::report_on;
 
 // The lowest board that is not settled, or as many as there are boards.
 fn first_unsettled(plan: &PlanView, table: &LinkTable) -> usize
-    ensures value { λ r. ⌜ r ≡ lowest-unsettled (shape (now (plan .entry) .boards) (now (now (plan .entry) .edges))) (accepted-in (now (table .entry) .links)) ⌝ }
+    ensures value { λ r. ⌜ r ≡ lowest-unsettled (shape (now (plan .entry) .boards) (now (now (plan .entry) .edges)))
+        (accepted-in (now (table .entry) .links)) ⌝ }
     ensures within { λ r. ⌜ r ≤ now (plan .entry) .boards ⌝ }
 {
     let boards = plan.boards();
@@ -34,8 +35,22 @@ fn first_unsettled(plan: &PlanView, table: &LinkTable) -> usize
 
 impl Turning {
     // Ends the run exactly if every board is settled; answers its tally.
-    pub fn end(self, plan: &PlanView, table: &LinkTable) -> Result<(Ended, Tally), (Turning, RunFault)>
-        ensures { λ r. ⌜ elim r [ Ok e ↦ (lowest-unsettled (shape (now (plan .entry) .boards) (now (now (plan .entry) .edges))) (accepted-in (now (table .entry) .links)) ≡ now (plan .entry) .boards) × (e .0 .tally ≡ self .tally) × (e .1 ≡ self .tally) | Err e ↦ (lowest-unsettled (shape (now (plan .entry) .boards) (now (now (plan .entry) .edges))) (accepted-in (now (table .entry) .links)) < now (plan .entry) .boards) × (e .0 ≡ self) × (e .1 ≡ RunFault.Early (lowest-unsettled (shape (now (plan .entry) .boards) (now (now (plan .entry) .edges))) (accepted-in (now (table .entry) .links)))) ] ⌝ }
+    pub fn end(
+        self,
+        plan: &PlanView,
+        table: &LinkTable,
+    ) -> Result<(Ended, Tally), (Turning, RunFault)>
+        ensures { λ r. ⌜ elim r [
+          | Ok e ↦ (lowest-unsettled
+              (shape (now (plan .entry) .boards) (now (now (plan .entry) .edges)))
+              (accepted-in (now (table .entry) .links)) ≡ now (plan .entry) .boards) × (e .0 .tally ≡ self .tally) ×
+              (e .1 ≡ self .tally)
+          | Err e ↦ (lowest-unsettled
+              (shape (now (plan .entry) .boards) (now (now (plan .entry) .edges)))
+              (accepted-in (now (table .entry) .links)) < now (plan .entry) .boards) × (e .0 ≡ self) ×
+              (e .1 ≡ RunFault.Early (lowest-unsettled (shape (now (plan .entry) .boards)
+              (now (now (plan .entry) .edges))) (accepted-in (now (table .entry) .links))))
+        ] ⌝ }
     {
         let board = first_unsettled(plan, table);
         if board < plan.boards() {
@@ -55,7 +70,9 @@ impl Turning {
 
     // Whether every board is settled.
     pub fn all_settled(&self, plan: &PlanView, table: &LinkTable) -> bool
-        ensures { λ r. ⌜ r ≡ not (ltb (lowest-unsettled (shape (now (plan .entry) .boards) (now (now (plan .entry) .edges))) (accepted-in (now (table .entry) .links))) (now (plan .entry) .boards)) ⌝ }
+        ensures { λ r. ⌜ r ≡ not (ltb (lowest-unsettled
+            (shape (now (plan .entry) .boards) (now (now (plan .entry) .edges)))
+            (accepted-in (now (table .entry) .links))) (now (plan .entry) .boards)) ⌝ }
     {
         !(first_unsettled(plan, table) < plan.boards())
     }

@@ -5,14 +5,27 @@ ghost use Rattle.std.specs.declared.option.Option.the-variants.{Some, None};
 ghost use Rattle.std.specs.declared.result.Result.the-variants.{Ok, Err};
 ghost use Rattle.plan.specs.Starts.{copies-before, copies-on};
 ghost use Rattle.exchange.specs.Calls.{show-fault};
+use super::Ended;
 use crate::fault::RunFault;
 use plan::view::PlanView;
-use super::Ended;
 
 impl Ended {
     // Board `board`'s copies, as a part of the memory.
-    pub fn show<'a, E>(&self, plan: &PlanView, copies: &'a [E], board: usize) -> Result<&'a [E], RunFault>
-        ensures { λ r. ⌜ elim r [ Ok s ↦ (show-fault (now (plan .entry) .boards) (now (now (plan .entry) .copies)) (length (now (copies .entry))) board ≡ None) × (now s ≡ take (length (copies-on (now (now (plan .entry) .copies)) board)) (drop (copies-before (now (now (plan .entry) .copies)) board) (now (copies .entry)))) | Err f ↦ show-fault (now (plan .entry) .boards) (now (now (plan .entry) .copies)) (length (now (copies .entry))) board ≡ Some f ] ⌝ }
+    pub fn show<'a, E>(
+        &self,
+        plan: &PlanView,
+        copies: &'a [E],
+        board: usize,
+    ) -> Result<&'a [E], RunFault>
+        ensures { λ r. ⌜ elim r [
+          | Ok s ↦ (show-fault (now (plan .entry) .boards) (now (now (plan .entry) .copies))
+              (length (now (copies .entry))) board ≡ None) ×
+              (now s ≡ take (length (copies-on (now (now (plan .entry) .copies)) board))
+              (drop (copies-before (now (now (plan .entry) .copies)) board) (now (copies .entry))))
+          | Err f ↦
+              show-fault (now (plan .entry) .boards) (now (now (plan .entry) .copies)) (length (now (copies .entry)))
+              board ≡ Some f
+        ] ⌝ }
     {
         let needed = plan.copies().len();
         if copies.len() < needed {

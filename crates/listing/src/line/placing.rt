@@ -17,12 +17,13 @@ impl Line {
 
     // Into `out` from `at` on. The answer is where the line ends.
     pub fn place(&self, out: &mut [u8], at: usize) -> Result<usize, NoRoom>
-        ensures { λ r. ⌜ elim r
-            [ Ok end ↦ (end ≡ at + length (held (now (self .entry)))) × (end ≤ length (now (out .entry)))
-                × (now (out .exit) ≡ placed (now (out .entry)) at (held (now (self .entry))))
-            | Err e ↦ (e .needed ≡ length (held (now (self .entry))))
-                × (length (now (out .entry)) < at + length (held (now (self .entry))))
-                × (now (out .exit) ≡ now (out .entry)) ] ⌝ }
+        ensures { λ r. ⌜ elim r [
+          | Ok end ↦ (end ≡ at + length (held (now (self .entry)))) × (end ≤ length (now (out .entry)))
+              × (now (out .exit) ≡ placed (now (out .entry)) at (held (now (self .entry))))
+          | Err e ↦ (e .needed ≡ length (held (now (self .entry))))
+              × (length (now (out .entry)) < at + length (held (now (self .entry))))
+              × (now (out .exit) ≡ now (out .entry))
+        ] ⌝ }
     {
         if out.len() < at || out.len() - at < self.len {
             return Err(NoRoom { needed: self.len });

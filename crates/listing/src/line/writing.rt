@@ -12,7 +12,10 @@ impl Line {
         ensures holds { λ r. ⌜ held r ≡ [] ⌝ }
         ensures size { λ r. ⌜ r .len ≡ 0 ⌝ }
     {
-        Line { bytes: [0; 160], len: 0 }
+        Line {
+            bytes: [0; 160],
+            len: 0,
+        }
     }
 
     pub(crate) fn byte(&mut self, b: u8)

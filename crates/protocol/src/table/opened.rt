@@ -9,6 +9,8 @@ impl LinkTable {
     pub fn new() -> LinkTable
         ensures { λ r. ⌜ r .links ≡ replicate 64 no-link ⌝ }
     {
-        LinkTable { links: [Link { i: 0, j: 0 }; 64] }
+        LinkTable {
+            links: [Link { i: 0, j: 0 }; 64],
+        }
     }
 }

@@ -17,24 +17,26 @@ loop-p-holds g c = λ s laid. carried-nowhere (g .E·Element .algebra) (g .E·El
 pub returns-in-Break-turn : need.returns-in-Break-turn
 returns-in-Break-turn g c =
     let p = err-from-errBy (c .from-residual .result) (c .from-residual .ensures .1) in
-    rw (p .1) (λ s laid.
-      ( counting 0 (c .loop-p .p)
-      , carried-still (g .E·Element .algebra) (g .E·Element·met .lawful) s _
-          (moment (c .loop-p .turning .tally) (c .loop-p .table .links) (c .loop-p .copies) (g .D·Medium .lanes (c .loop-p .medium)))
-          _ (counting 0 (c .loop-p .p)) (c .loop-p .inv s laid) (c .in-Break-turn .ensures tt .promise s laid)
-      ))
+    rw (p .1) (λ s laid. (
+      counting 0 (c .loop-p .p),
+      carried-still (g .E·Element .algebra) (g .E·Element·met .lawful) s _
+          (moment (c .loop-p .turning .tally) (c .loop-p .table .links) (c .loop-p .copies)
+          (g .D·Medium .lanes (c .loop-p .medium)))
+          _ (counting 0 (c .loop-p .p)) (c .loop-p .inv s laid) (c .in-Break-turn .ensures tt .promise s laid),
+    ))
 
 pub loop-p-again : need.loop-p-again
 loop-p-again g c = λ s laid.
     let A = g .E·Element .algebra in
     let from = moment (c .args .turning .now .tally) (c .args .table .now .links) (c .args .copies .now)
-        (g .D·Medium .lanes (c .args .medium .now)) in
+    (g .D·Medium .lanes (c .args .medium .now)) in
     let before = moment (c .loop-p .turning .tally) (c .loop-p .table .links) (c .loop-p .copies)
-        (g .D·Medium .lanes (c .loop-p .medium)) in
+    (g .D·Medium .lanes (c .loop-p .medium)) in
     let after = moment (c .turn .last .self .tally) (c .turn .last .table .links) (c .turn .last .copies)
-        (g .D·Medium .lanes (c .turn .last .medium)) in
+    (g .D·Medium .lanes (c .turn .last .medium)) in
     let p : ℕ = c .loop-p .p in
-    let next : counting 0 p ++ (p ∷ []) ≡ counting 0 (p + 1) = sym (counting-next p) ∙ ap (counting 0) (sym (add-one p)) in
+    let next : counting 0 p ++ (p ∷ []) ≡ counting 0 (p + 1) = sym (counting-next p) ∙ ap (counting 0)
+    (sym (add-one p)) in
     subst (λ (us : List ℕ). Carried A s from after us) next
     (carried-on A (g .E·Element·met .lawful) s from before after (counting 0 p) p (c .in-Continue-turn .field-0)
-      (c .loop-p .inv s laid) (c .in-Continue-turn .ensures tt .promise s laid))
+    (c .loop-p .inv s laid) (c .in-Continue-turn .ensures tt .promise s laid))

@@ -9,6 +9,7 @@ abbrev pub Inv-loop-p : given.InvT-loop-p
 Inv-loop-p g l =
     (s : Scene) → Laid-plan s (l .plan .boards) (l .plan .copies .now) (l .plan .edges .now)
     → Carried (g .E·Element .algebra) s
-      (moment (l .entry .turning .tally) (l .entry .table .links) (l .entry .copies) (g .D·Medium .lanes (l .entry .medium)))
-      (moment (l .turning .tally) (l .table .links) (l .copies) (g .D·Medium .lanes (l .medium)))
-      (counting 0 (l .p))
+    (moment (l .entry .turning .tally) (l .entry .table .links) (l .entry .copies)
+    (g .D·Medium .lanes (l .entry .medium)))
+    (moment (l .turning .tally) (l .table .links) (l .copies) (g .D·Medium .lanes (l .medium)))
+    (counting 0 (l .p))

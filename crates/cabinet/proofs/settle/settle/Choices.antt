@@ -9,6 +9,7 @@ abbrev pub Inv-loop-k : given.InvT-loop-k
 Inv-loop-k g l =
     (s : Scene) → Laid-plan s (l .plan .boards) (l .plan .copies .now) (l .plan .edges .now)
     → Carried (g .E·Element .algebra) s
-      (moment (l .entry .turning .tally) (l .entry .table .links) (l .entry .copies) (g .D·Medium .lanes (l .entry .medium)))
-      (moment (l .turning .tally) (l .table .links) (l .copies) (g .D·Medium .lanes (l .medium)))
-      (circles (l .plan .boards) (l .k))
+    (moment (l .entry .turning .tally) (l .entry .table .links) (l .entry .copies)
+    (g .D·Medium .lanes (l .entry .medium)))
+    (moment (l .turning .tally) (l .table .links) (l .copies) (g .D·Medium .lanes (l .medium)))
+    (circles (l .plan .boards) (l .k))

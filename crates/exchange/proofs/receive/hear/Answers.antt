@@ -9,7 +9,7 @@ take-lane-frames-requires g c κs =
     let plan = c .args .plan .now in
     rw (c .edges-between-ups .ensures, c .edges-between-downs .ensures) record {
       fit = links-fit (plan .boards) (plan .copies .now) (plan .edges .now) (plan .sound)
-        (length (c .args .copies .now)) (c .pre .room) (c .args .q) (c .args .p);
+          (length (c .args .copies .now)) (c .pre .room) (c .args .q) (c .args .p);
       boards = c .pre .boards;
       few = omega arith;
     }

@@ -14,10 +14,10 @@ loop-q-again g c =
     let p = c .args .p in
     let q = c .loop-q .q in
     let start = received (c .args .table .now .links) (c .args .copies .now) 0
-        (g .D·Medium .lanes (c .args .medium .now)) 0 (c .args .got .now) in
+    (g .D·Medium .lanes (c .args .medium .now)) 0 (c .args .got .now) in
     record {
       so-far = c .hear-haul .ensures .after
-        ∙ ap (λ r. cond (eqb q p) r (lane-step A edges p q r)) (c .loop-q .inv .so-far)
-        ∙ ap (λ k. lanes-step A edges p k start) (sym (add-one q));
+          ∙ ap (λ r. cond (eqb q p) r (lane-step A edges p q r)) (c .loop-q .inv .so-far)
+          ∙ ap (λ k. lanes-step A edges p k start) (sym (add-one q));
       few = (omega arith, omega arith);
     }

@@ -11,6 +11,6 @@ Inv-loop-q g l =
     record {
       so-far : received (l .table .links) (l .copies) (l .haul .accepted) (lanes (l .medium)) (l .haul .taken) (l .got)
           ≡ lanes-step (g .E·Element .algebra) (l .plan .edges .now) (l .p) (l .q)
-              (received (l .entry .table .links) (l .entry .copies) 0 (lanes (l .entry .medium)) 0 (l .entry .got));
+          (received (l .entry .table .links) (l .entry .copies) 0 (lanes (l .entry .medium)) 0 (l .entry .got));
       few : (l .haul .taken ≤ 64 * l .q) × (l .haul .accepted ≤ 64 * l .q);
     }

@@ -14,4 +14,4 @@ loop-q-again c =
     let p = c .args .p in
     ap₂ _&&_ (c .loop-q .inv) (c .heard-all-all .ensures)
     ∙ ap (λ k. others p k (λ q. leb (length (edges-between (c .args .plan .now .edges .now) q p))
-        (accepted-in (c .args .table .now .links) q p))) (sym (add-one (c .loop-q .q)))
+    (accepted-in (c .args .table .now .links) q p))) (sym (add-one (c .loop-q .q)))

@@ -10,4 +10,4 @@ use Rattle.exchange.proofs.send.has_gathered.Given as given
 abbrev pub Inv-loop-q : given.InvT-loop-q
 Inv-loop-q l =
     l .all ≡ others (l .p) (l .q) (λ q. leb (length (edges-between (l .plan .edges .now) q (l .p)))
-      (accepted-in (l .table .links) q (l .p)))
+    (accepted-in (l .table .links) q (l .p)))

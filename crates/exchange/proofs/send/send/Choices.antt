@@ -12,7 +12,8 @@ Inv-loop-q g l =
     let boards = l .plan .boards in
     record {
       so-far : Sent (l .p) (due A boards edges (l .p) (l .table .links) (l .got))
-        (due-frame A boards edges (l .p) (l .table .links) (l .copies)) (g .D·Medium .lanes (l .entry .medium)) (l .q)
-        (g .D·Medium .lanes (l .medium)) (l .made) (l .lost);
+          (due-frame A boards edges (l .p) (l .table .links) (l .copies)) (g .D·Medium .lanes (l .entry .medium))
+          (l .q)
+          (g .D·Medium .lanes (l .medium)) (l .made) (l .lost);
       few : (l .lost ≤ l .made) × (l .made ≤ l .q);
     }

@@ -8,5 +8,5 @@ speak-requires g c κs =
     let plan = c .args .plan .now in
     rw (c .edges-between-ups .ensures, c .edges-between-downs .ensures) record {
       fit = links-fit (plan .boards) (plan .copies .now) (plan .edges .now) (plan .sound)
-        (length (c .args .copies .now)) (c .pre .room) (c .args .p) (c .args .q);
+          (length (c .args .copies .now)) (c .pre .room) (c .args .p) (c .args .q);
     }

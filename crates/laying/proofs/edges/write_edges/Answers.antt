@@ -75,4 +75,5 @@ pub returns : need.returns
 returns c =
     let f = board-edges (c .args .table .now) (c .args .owners .now) (c .args .n) (c .args .boards) in
     let all : c .loop-p .p ≡ c .args .boards = omega arith in
-    written-all f (c .loop-p .p) (c .args .boards) (c .args .out .now) (c .loop-p .out) all (c .loop-p .inv .written .1)
+    written-all f (c .loop-p .p) (c .args .boards) (c .args .out .now) (c .loop-p .out) all
+    (c .loop-p .inv .written .1)

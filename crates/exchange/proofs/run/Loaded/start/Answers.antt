@@ -14,5 +14,5 @@ returns g c =
     record {
       exact = (idle, refl, refl);
       promise = λ s laid own. run-starts (g .E·Element .algebra) (g .E·Element·met .lawful) s _ (laid .sound) refl refl
-        (all-lanes-idle lanes idle (g .D·Medium·met .outside (c .args .medium .now))) own;
+          (all-lanes-idle lanes idle (g .D·Medium·met .outside (c .args .medium .now))) own;
     }

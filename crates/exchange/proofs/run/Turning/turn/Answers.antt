@@ -27,24 +27,29 @@ returns g c =
     let puts = c .send-puts .result in
     let below : p < plan .boards = omega (arith, c .boards .ensures) in
     let left : tally .turns < 1000000 = omega arith in
-    let room : length (plan .copies .now) ≤ length copies = omega (arith, ap (λ r. length (now r)) (c .copies-needed .ensures)) in
+    let room : length (plan .copies .now) ≤ length copies = omega
+    (arith, ap (λ r. length (now r)) (c .copies-needed .ensures)) in
     let laid-turn = a-turn A (plan .boards) (plan .copies .now) (plan .edges .now) (plan .sound) p below tally links
-        (c .receive-haul .last .table .links) copies (c .receive-haul .last .copies) before between after
-        (replicate 8 false) (c .receive-haul .last .got) (haul .taken) (haul .accepted) (puts .made) (puts .lost)
-        (c .args .table .now .full) refl room (c .receive-haul .ensures .after) (c .send-puts .ensures .after) in
+    (c .receive-haul .last .table .links) copies (c .receive-haul .last .copies) before between after
+    (replicate 8 false) (c .receive-haul .last .got) (haul .taken) (haul .accepted) (puts .made) (puts .lost)
+    (c .args .table .now .full) refl room (c .receive-haul .ensures .after) (c .send-puts .ensures .after) in
     let numbers = numbers-are A (plan .boards) (plan .copies .now) (plan .edges .now) (plan .sound) p below tally links
-        (c .receive-haul .last .table .links) copies (c .receive-haul .last .copies) before between after
-        (replicate 8 false) (c .receive-haul .last .got) (haul .taken) (haul .accepted) (puts .made) (puts .lost)
-        (c .args .table .now .full) refl room (c .receive-haul .ensures .after) (c .send-puts .ensures .after) in
+    (c .receive-haul .last .table .links) copies (c .receive-haul .last .copies) before between after
+    (replicate 8 false) (c .receive-haul .last .got) (haul .taken) (haul .accepted) (puts .made) (puts .lost)
+    (c .args .table .now .full) refl room (c .receive-haul .ensures .after) (c .send-puts .ensures .after) in
     record {
-      exact =
-        ( rw (lt-ltb p (plan .boards) below, lt-ltb (tally .turns) 1000000 left,
-            le-leb (length (plan .copies .now)) (length copies) room) refl
-        , laid-turn
-        , numbers
-        );
-      promise = λ s laid. turn-goes-on A (g .E·Element·met .lawful) s (plan .boards) (plan .copies .now) (plan .edges .now)
-        laid p _ _ _ laid-turn numbers;
+      exact = (
+        rw (
+          lt-ltb p (plan .boards) below,
+          lt-ltb (tally .turns) 1000000 left,
+          le-leb (length (plan .copies .now)) (length copies) room,
+        ) refl,
+        laid-turn,
+        numbers,
+      );
+      promise = λ s laid. turn-goes-on A (g .E·Element·met .lawful) s (plan .boards) (plan .copies .now)
+          (plan .edges .now)
+          laid p _ _ _ laid-turn numbers;
     }
 
 pub returns-then-board-boards : need.returns-then-board-boards

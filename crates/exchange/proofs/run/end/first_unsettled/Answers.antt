@@ -17,7 +17,7 @@ returns-in-Awaits c =
     let below : p < P .boards = omega (arith, c .boards-boards .ensures) in
     record {
       value = sym (lowest-found (λ r. not (is-settled (report-by P count r))) p (c .loop-p .inv)
-        (ap (λ r. not (is-settled r)) (sym (c .in-Awaits .ensures tt))) (P .boards) below);
+          (ap (λ r. not (is-settled r)) (sym (c .in-Awaits .ensures tt))) (P .boards) below);
       within = omega arith;
     }
 

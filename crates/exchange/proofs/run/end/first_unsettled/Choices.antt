@@ -9,6 +9,7 @@ use Rattle.exchange.proofs.run.end.first_unsettled.Given as given
 
 abbrev pub Inv-loop-p : given.InvT-loop-p
 Inv-loop-p l =
-    lowest (λ p. not (is-settled (report-by (shape (l .plan .boards) (l .plan .edges .now)) (accepted-in (l .table .links)) p)))
-      (l .p)
+    lowest (λ p. not (is-settled (report-by (shape (l .plan .boards) (l .plan .edges .now))
+    (accepted-in (l .table .links)) p)))
+    (l .p)
     ≡ l .p

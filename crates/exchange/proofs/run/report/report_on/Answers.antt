@@ -29,7 +29,7 @@ returns-then-items-gt0 c =
     let below : q < P .boards = omega (arith, c .boards-boards .ensures) in
     found P count (c .args .p) q (c .lacking-items .result)
     (lowest-found (λ r. ltb 0 (lacks P count (c .args .p) r)) q (c .loop-q .inv)
-      (lt-ltb 0 (lacks P count (c .args .p) q) (omega (arith, c .lacking-items .ensures))) (P .boards) below)
+    (lt-ltb 0 (lacks P count (c .args .p) q) (omega (arith, c .lacking-items .ensures))) (P .boards) below)
     below (c .lacking-items .ensures)
 
 pub loop-q-again : need.loop-q-again

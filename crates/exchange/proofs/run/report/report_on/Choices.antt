@@ -9,5 +9,6 @@ use Rattle.exchange.proofs.run.report.report_on.Given as given
 
 abbrev pub Inv-loop-q : given.InvT-loop-q
 Inv-loop-q l =
-    lowest (λ r. ltb 0 (lacks (shape (l .plan .boards) (l .plan .edges .now)) (accepted-in (l .table .links)) (l .p) r)) (l .q)
+    lowest (λ r. ltb 0 (lacks (shape (l .plan .boards) (l .plan .edges .now)) (accepted-in (l .table .links)) (l .p)
+    r)) (l .q)
     ≡ l .q

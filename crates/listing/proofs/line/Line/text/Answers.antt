@@ -12,12 +12,12 @@ loop-i-again c =
     let text = c .args .text .now in
     let was = held (c .args .self .now) in
     let next = getD text (c .loop-i .i) 0 in
-    let inv = c .loop-i .inv .0 in
-    ( c .byte .ensures .holds
-      ∙ ap (λ l. l ++ next ∷ []) inv
-      ∙ append-assoc was (take (c .loop-i .i) text) (next ∷ [])
-      ∙ ap (λ l. was ++ l) (sym (take-more text (c .loop-i .i) 0 (c .loop-i-test .taken)))
-    , omega (arith, c .byte .ensures .size, c .loop-i .inv .1)
+    let inv = c .loop-i .inv .0 in (
+      c .byte .ensures .holds
+          ∙ ap (λ l. l ++ next ∷ []) inv
+          ∙ append-assoc was (take (c .loop-i .i) text) (next ∷ [])
+          ∙ ap (λ l. was ++ l) (sym (take-more text (c .loop-i .i) 0 (c .loop-i-test .taken))),
+      omega (arith, c .byte .ensures .size, c .loop-i .inv .1),
     )
 
 pub returns : need.returns
