@@ -1,0 +1,4 @@
+pub mod Pages
+pub mod Refused
+pub mod Runs
+pub mod Told

@@ -1,2 +1,5 @@
 pub mod Circles
+pub mod Listed
+pub mod Pages
 pub mod Prepared
+pub mod Refusals

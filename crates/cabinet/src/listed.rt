@@ -1,4 +1,16 @@
 // The listing of a scene's run.
+ghost use mathlib.Core.Path.{_≡_};
+ghost use mathlib.Core.List.{_++_};
+ghost use Prim.Native.Nat.{_≤_, _<_};
+ghost use lib.ListN.{length};
+ghost use Rattle.std.specs.Of.Vec.{vec-items};
+ghost use Rattle.std.specs.Vec.{made};
+ghost use Rattle.scene.specs.Views.{viewed};
+ghost use Rattle.protocol.specs.declared.tally.Report.the-variants.{Settled};
+ghost use Rattle.exchange.specs.Going.{Laid-plan};
+ghost use Rattle.cabinet.specs.Pages.{page-of, boards-page, head-page, reports};
+ghost use Rattle.cabinet.specs.Refusals.{refused-page};
+ghost use Rattle.cabinet.specs.Listed.{record-room, Run-told, Kind-told, Page-told};
 use crate::page::add_board;
 use crate::page::add_line;
 use crate::prepare::prepare;
@@ -34,16 +46,49 @@ const MEMORY: usize = 4096;
 
 const CIRCLES: usize = 100000;
 
-fn list_refusal(heap: Global, refusal: Refusal) -> Result<Vec<u8>, AllocError> {
+fn list_refusal(heap: Global, refusal: Refusal) -> Result<Vec<u8>, AllocError>
+    ensures { λ r. ⌜ made r (λ page. vec-items page ≡ refused-page refusal) ⌝ }
+{
     let mut page = Vec::new(heap);
     add_line(&mut page, &refusal_line(refusal.number(), refusal.last()))?;
     Ok(page)
 }
 
 // The plan's line and the tally's.
-fn add_head(page: &mut Vec<u8>, numbers: PlanNumbers, tally: Tally) -> Result<(), AllocError> {
+fn add_head(page: &mut Vec<u8>, numbers: PlanNumbers, tally: Tally) -> Result<(), AllocError>
+    ensures { λ r. ⌜ made r (λ _. vec-items (now (page .exit)) ≡ vec-items (now (page .entry))
+        ++ head-page numbers tally) ⌝ }
+{
     add_line(page, &plan_line(numbers))?;
     add_line(page, &tally_line(tally))
+}
+
+// A board of an ended run: it is settled, and shows its copies.
+fn add_shown<E: Element>(
+    page: &mut Vec<u8>,
+    ended: &Ended,
+    plan: &PlanView,
+    values: &[E],
+    board: usize,
+) -> Result<(), AllocError>
+    requires below { ⌜ board < now plan .boards ⌝ }
+    requires room { ⌜ length (now (now plan .copies)) ≤ length (now values) ⌝ }
+    ensures { λ r. ⌜ made r (λ _. vec-items (now (page .exit)) ≡ vec-items (now (page .entry))
+        ++ page-of (E·Element .algebra) (λ _. Settled) (now (now (plan .entry) .copies)) (now (values .entry))
+        board) ⌝ }
+{
+    let part = plan.board_part(board);
+    let (from, end) = (part.from, part.from + part.count);
+    match ended.show(plan, values, board) {
+        Ok(shown) => add_board(
+            page,
+            board,
+            Report::Settled,
+            &plan.copies()[from..end],
+            shown,
+        ),
+        Err(_) => Ok(()),
+    }
 }
 
 // All boards are settled: each shows its copies.
@@ -52,48 +97,105 @@ fn list_settled<E: Element>(
     ended: &Ended,
     plan: &PlanView,
     values: &[E],
-) -> Result<(), AllocError> {
+) -> Result<(), AllocError>
+    requires room { ⌜ length (now (now plan .copies)) ≤ length (now values) ⌝ }
+    ensures { λ r. ⌜ made r (λ _. vec-items (now (page .exit)) ≡ vec-items (now (page .entry))
+        ++ boards-page (E·Element .algebra) (λ _. Settled) (now (now (plan .entry) .copies)) (now (values .entry))
+        (now (plan .entry) .boards)) ⌝ }
+{
     for board in 0..plan.boards() {
-        let part = plan.board_part(board);
-        let (from, end) = (part.from, part.from + part.count);
-        if let Ok(shown) = ended.show(plan, values, board) {
-            add_board(
-                page,
-                board,
-                Report::Settled,
-                &plan.copies()[from..end],
-                shown,
-            )?;
-        }
+        add_shown(page, ended, plan, values, board)?;
     }
     Ok(())
 }
 
-// Some board is not settled: the copies are read from the memory.
+// A board of a run that goes on: its copies are read from the memory.
+fn add_reported<E: Element>(
+    page: &mut Vec<u8>,
+    turning: &Turning,
+    plan: &PlanView,
+    table: &LinkTable,
+    values: &[E],
+    board: usize,
+) -> Result<(), AllocError>
+    requires below { ⌜ board < now plan .boards ⌝ }
+    requires room { ⌜ length (now (now plan .copies)) ≤ length (now values) ⌝ }
+    ensures { λ r. ⌜ made r (λ _. vec-items (now (page .exit)) ≡ vec-items (now (page .entry))
+        ++ page-of (E·Element .algebra)
+        (reports (now (plan .entry) .boards) (now (now (plan .entry) .edges)) (now (table .entry) .links))
+        (now (now (plan .entry) .copies)) (now (values .entry)) board) ⌝ }
+{
+    let part = plan.board_part(board);
+    let (from, end) = (part.from, part.from + part.count);
+    match turning.report(plan, table, board) {
+        Ok(report) => add_board(
+            page,
+            board,
+            report,
+            &plan.copies()[from..end],
+            &values[from..end],
+        ),
+        Err(_) => Ok(()),
+    }
+}
+
+// Some board is not settled: each is reported.
 fn list_unsettled<E: Element>(
     page: &mut Vec<u8>,
     turning: &Turning,
     plan: &PlanView,
     table: &LinkTable,
     values: &[E],
-) -> Result<(), AllocError> {
+) -> Result<(), AllocError>
+    requires room { ⌜ length (now (now plan .copies)) ≤ length (now values) ⌝ }
+    ensures { λ r. ⌜ made r (λ _. vec-items (now (page .exit)) ≡ vec-items (now (page .entry))
+        ++ boards-page (E·Element .algebra)
+        (reports (now (plan .entry) .boards) (now (now (plan .entry) .edges)) (now (table .entry) .links))
+        (now (now (plan .entry) .copies)) (now (values .entry)) (now (plan .entry) .boards)) ⌝ }
+{
     for board in 0..plan.boards() {
-        let part = plan.board_part(board);
-        let (from, end) = (part.from, part.from + part.count);
-        if end > values.len() {
-            return Ok(());
-        }
-        if let Ok(report) = turning.report(plan, table, board) {
-            add_board(
-                page,
-                board,
-                report,
-                &plan.copies()[from..end],
-                &values[from..end],
-            )?;
-        }
+        add_reported(page, turning, plan, table, values, board)?;
     }
     Ok(())
+}
+
+fn list_ended<E: Element>(
+    heap: Global,
+    numbers: PlanNumbers,
+    tally: Tally,
+    ended: &Ended,
+    plan: &PlanView,
+    values: &[E],
+) -> Result<Vec<u8>, AllocError>
+    requires room { ⌜ length (now (now plan .copies)) ≤ length (now values) ⌝ }
+    ensures { λ r. ⌜ made r (λ page. vec-items page ≡ head-page numbers tally
+        ++ boards-page (E·Element .algebra) (λ _. Settled) (now (now (plan .entry) .copies)) (now (values .entry))
+        (now (plan .entry) .boards)) ⌝ }
+{
+    let mut page = Vec::new(heap);
+    add_head(&mut page, numbers, tally)?;
+    list_settled(&mut page, ended, plan, values)?;
+    Ok(page)
+}
+
+fn list_open<E: Element>(
+    heap: Global,
+    numbers: PlanNumbers,
+    turning: &Turning,
+    plan: &PlanView,
+    table: &LinkTable,
+    values: &[E],
+) -> Result<Vec<u8>, AllocError>
+    requires room { ⌜ length (now (now plan .copies)) ≤ length (now values) ⌝ }
+    ensures { λ r. ⌜ made r (λ page. vec-items page ≡ head-page numbers (now (turning .entry) .tally)
+        ++ boards-page (E·Element .algebra)
+        (reports (now (plan .entry) .boards) (now (now (plan .entry) .edges)) (now (table .entry) .links))
+        (now (now (plan .entry) .copies)) (now (values .entry)) (now (plan .entry) .boards)) ⌝ }
+{
+    let mut page = Vec::new(heap);
+    add_head(&mut page, numbers, turning.tally())?;
+    list_unsettled(&mut page, turning, plan, table, values)?;
+    Ok(page)
 }
 
 // Ends the run if all boards are settled, or else gives it up, and lists it.
@@ -104,27 +206,27 @@ fn list_turned<E: Element>(
     plan: &PlanView,
     table: &LinkTable,
     values: &[E],
-) -> Result<Vec<u8>, AllocError> {
-    let mut page = Vec::new(heap);
+) -> Result<Vec<u8>, AllocError>
+    requires room { ⌜ length (now (now plan .copies)) ≤ length (now values) ⌝ }
+    ensures { λ r. ⌜ made r (λ page. vec-items page ≡ head-page numbers (turning .tally)
+        ++ boards-page (E·Element .algebra)
+        (reports (now (plan .entry) .boards) (now (now (plan .entry) .edges)) (now (table .entry) .links))
+        (now (now (plan .entry) .copies)) (now (values .entry)) (now (plan .entry) .boards)) ⌝ }
+{
     match turning.end(plan, table) {
         Ok(done) => {
             let (ended, tally) = done;
-            let head = add_head(&mut page, numbers, tally);
-            let body = list_settled(&mut page, &ended, plan, values);
+            let page = list_ended(heap, numbers, tally, &ended, plan, values);
             let _ = ended.close();
-            head?;
-            body?;
+            page
         }
         Err(back) => {
             let (turning, _) = back;
-            let head = add_head(&mut page, numbers, turning.tally());
-            let body = list_unsettled(&mut page, &turning, plan, table, values);
+            let page = list_open(heap, numbers, &turning, plan, table, values);
             let _ = turning.abandon();
-            head?;
-            body?;
+            page
         }
     }
-    Ok(page)
 }
 
 // Runs a scene with elements of one type, and lists what its boards hold at the end.
@@ -134,7 +236,14 @@ fn list_run<E: Element, D: Medium + Drop>(
     plan: &PlanView,
     medium: D,
     values: &mut [E],
-) -> Result<Vec<u8>, AllocError> {
+) -> Result<Vec<u8>, AllocError>
+    requires laid { ⌜ Laid-plan (viewed (now scene)) (now plan .boards) (now (now plan .copies))
+        (now (now plan .edges)) ⌝ }
+    requires kind { ⌜ viewed (now scene) .kind ≡ E·Element .algebra .kind ⌝ }
+    requires room { ⌜ length (now (now plan .copies)) ≤ length (now values) ⌝ }
+    ensures { λ r. ⌜ made r (λ page. Run-told (E·Element .algebra) (viewed (now (scene .entry)))
+        (D·Medium .lanes medium) (vec-items page)) ⌝ }
+{
     let mut medium = medium;
     let mut table = LinkTable::new();
     let loaded = match load(scene, plan, values) {
@@ -166,7 +275,12 @@ fn list_plan<'a, D: Medium + Drop>(
     copies: &'a [CopyRecord],
     edges: &'a [Edge],
     medium: D,
-) -> Result<Vec<u8>, AllocError> {
+) -> Result<Vec<u8>, AllocError>
+    requires laid { ⌜ Laid-plan (viewed (now scene)) (viewed (now scene) .boards) (now copies) (now edges) ⌝ }
+    requires room { ⌜ length (now copies) ≤ record-room ⌝ }
+    ensures { λ r. ⌜ made r (λ page. Kind-told (viewed (now (scene .entry))) (D·Medium .lanes medium)
+        (vec-items page)) ⌝ }
+{
     let mut plan: PlanView = PlanView::new();
     if let Err(fault) = plan.take(scene.boards(), copies, edges) {
         return list_refusal(heap, Refusal::Plan(fault));
@@ -197,11 +311,9 @@ fn list_plan<'a, D: Medium + Drop>(
 }
 
 // The listing of the scene that the bytes say, run over this medium; or the one line of a refusal.
-pub fn list<D: Medium + Drop>(
-    heap: Global,
-    bytes: &[u8],
-    medium: D,
-) -> Result<Vec<u8>, AllocError> {
+pub fn list<D: Medium + Drop>(heap: Global, bytes: &[u8], medium: D) -> Result<Vec<u8>, AllocError>
+    ensures { λ r. ⌜ made r (λ page. Page-told (now (bytes .entry)) (D·Medium .lanes medium) (vec-items page)) ⌝ }
+{
     let mut copies = [CopyRecord {
         board: 0,
         vertex: 0,

@@ -1,5 +1,7 @@
 // Why a scene is not run: a fault of any layer, as it was met there.
 ghost use mathlib.Core.Path.{_≡_};
+ghost use Rattle.plan.specs.Faults.{first-of, last-of};
+ghost use Rattle.cabinet.specs.Refusals.{refusal-numbers};
 ghost use Rattle.cabinet.specs.declared.refusal.Refusal.the-variants.{Scene, Lay, Plan, Run};
 use exchange::fault::RunFault;
 use laying::fault::LayFault;
@@ -48,7 +50,9 @@ pub impl From<RunFault> for Refusal as RunRefusal {
 
 impl Refusal {
     // The refusal's number.
-    pub fn number(&self) -> usize {
+    pub fn number(&self) -> usize
+        ensures { λ r. ⌜ r ≡ first-of (refusal-numbers (now (self .entry))) ⌝ }
+    {
         match self {
             Refusal::Scene(fault) => usize::from(fault.number()),
             Refusal::Lay(fault) => usize::from(fault.number()),
@@ -58,7 +62,9 @@ impl Refusal {
     }
 
     // The last of its values.
-    pub fn last(&self) -> usize {
+    pub fn last(&self) -> usize
+        ensures { λ r. ⌜ r ≡ last-of (refusal-numbers (now (self .entry))) ⌝ }
+    {
         match self {
             Refusal::Scene(fault) => fault.place(),
             Refusal::Lay(fault) => fault.last(),

@@ -3,3 +3,4 @@ pub mod Search
 pub mod Promises
 pub mod Contributions
 pub mod OwnSums
+pub mod Shown

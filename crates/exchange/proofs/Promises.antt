@@ -5,15 +5,17 @@ use mathlib.Core.Bool.{Bool, true, false, cond}
 use mathlib.Core.List.{List, [], _∷_, _++_, append-assoc, append-nil}
 use Prim.Native.Nat.{ℕ, zero, suc, _+_, _*_, _/_, _%_, _<_}
 use native.Mathlib.Omega.{arith}
-use lib.ListN.{getD, replicate}
+use lib.ListN.{length, getD, drop, replicate}
+use Rattle.std.proofs.shelf.Lists.{length-append, length-map, getD-append-left, getD-map}
 use Rattle.std.proofs.shelf.Tests.{cases-lt, lt-ltb, le-ltb}
 use Rattle.std.specs.declared.result.Result.the-variants.{Ok}
 use Rattle.element.specs.Algebra.{Algebra, Lawful}
 use Rattle.scene.specs.Cells.{Scene, Sound}
-use Rattle.plan.specs.Links.{shape}
+use Rattle.scene.specs.Sums.{own-sum}
+use Rattle.plan.specs.Links.{shape, no-copy}
 use Rattle.plan.specs.declared.records.CopyRecord.{CopyRecord}
 use Rattle.plan.specs.declared.records.Edge.{Edge}
-use Rattle.forest.specs.Forest.{laid-edges}
+use Rattle.forest.specs.Forest.{laid-copies, laid-edges}
 use Rattle.protocol.specs.declared.tally.TurnCounts.{TurnCounts}
 use Rattle.medium.specs.Lanes.{Lanes, is-lane}
 use Rattle.protocol.specs.Books.{Book, blank, fed}
@@ -21,6 +23,7 @@ use Rattle.protocol.specs.Runs.{Moment, Turn, Run, fresh, turn, laid, seen, cou
 use Rattle.protocol.specs.Turns.{lost}
 use Rattle.protocol.proofs.Theorem.{promise-holds}
 use Rattle.exchange.specs.Calls.{Idle-before}
+use Rattle.exchange.specs.Loading.{loaded-copies}
 use Rattle.exchange.specs.Going.{Laid-plan, Own-sums, Kept, Goes-on, Carried}
 
 same-either-way : {X : Type 0} (b : Bool) (x : X) → cond b x x ≡ x
@@ -116,3 +119,27 @@ module _ {M : Type 0} (A : Algebra M) (law : Lawful A) (s : Scene) where
   carried-still m m₁ m₂ us c d ts book losses r =
       let (book₁, losses₁, k) = c ts book losses r in
       (book₁, losses₁, d (ts ++ us) book₁ losses₁ (k .run))
+
+-- copies as loading sets them, by a laid plan, hold their boards' own sums
+pub own-sums-from-load : {M : Type 0} (A : Algebra M) (s : Scene) (records : List CopyRecord) (memory memory′ : List M)
+    → records ≡ laid-copies s → memory′ ≡ loaded-copies A s records ++ drop (length records) memory → Own-sums A s
+    memory′
+own-sums-from-load A s records memory memory′ laid set =
+    let many : length (loaded-copies A s records) ≡ length records = length-map records _ in
+    let same : length records ≡ length (laid-copies s) = ap length laid in
+    record {
+      room = omega (
+        arith,
+        ap length set,
+        length-append (loaded-copies A s records) (drop (length records) memory),
+        many,
+        same,
+      );
+      loaded = λ c l.
+          let here : c < length records = omega (arith, same) in
+          let there : c < length (loaded-copies A s records) = omega (arith, many) in
+          ap (λ m. getD m c (A .zero)) set
+          ∙ getD-append-left (loaded-copies A s records) (drop (length records) memory) (A .zero) c there
+          ∙ getD-map (λ (r : CopyRecord). own-sum A s (r .board) (r .vertex)) records c no-copy (A .zero) here
+          ∙ ap (λ rs. own-sum A s (getD rs c no-copy .board) (getD rs c no-copy .vertex)) laid;
+    }

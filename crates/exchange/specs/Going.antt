@@ -1,13 +1,13 @@
 -- How calls carry a run, and its promise, from one moment to the next.
 use mathlib.Core.Path.{_≡_}
-use mathlib.Core.List.{List, [], _∷_, _++_}
+use mathlib.Core.List.{List, [], _∷_, _++_, map}
 use Prim.Native.Nat.{ℕ, _+_, _≤_, _<_}
 use lib.ListN.{length, getD}
 use Rattle.std.specs.declared.result.Result.{Result}
 use Rattle.std.specs.declared.result.Result.the-variants.{Ok, Err}
 use Rattle.element.specs.Algebra.{Algebra}
 use Rattle.scene.specs.Cells.{Scene, Sound}
-use Rattle.scene.specs.Sums.{own-sum}
+use Rattle.scene.specs.Sums.{own-sum, undivided}
 use Rattle.plan.specs.Links.{no-copy}
 use Rattle.plan.specs.declared.records.CopyRecord.{CopyRecord}
 use Rattle.plan.specs.declared.records.Edge.{Edge}
@@ -49,3 +49,7 @@ Goes-on A s p m m′ (Err f) = (ts : List ℕ) (book : Book) (losses : ℕ) → 
 abbrev pub Carried : {M : Type 0} → Algebra M → Scene → Moment M → Moment M → List ℕ → Type 0
 Carried A s m m′ us = (ts : List ℕ) (book : Book) (losses : ℕ) → Run A s ts m book losses
     → (book′ : Book) × (losses′ : ℕ) × Kept A s (ts ++ us) m′ book′ losses′
+
+-- the undivided totals of these copies
+abbrev pub totals-of : {M : Type 0} → Algebra M → Scene → List CopyRecord → List M
+totals-of A s records = map (λ r. undivided A s (r .vertex)) records

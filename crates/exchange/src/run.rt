@@ -2,6 +2,7 @@
 ghost use Prim.Native.Nat.{_≤_, _*_};
 use protocol::tally::Tally;
 
+pub mod drive;
 mod end;
 pub mod load;
 mod report;

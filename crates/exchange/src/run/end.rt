@@ -64,8 +64,8 @@ impl Turning {
     pub fn abandon(self) -> Tally
         ensures { λ r. ⌜ r ≡ self .tally ⌝ }
     {
-        let Turning { tally } = self;
-        tally
+        let Turning { tally: given_up } = self;
+        given_up
     }
 
     // Whether every board is settled.
@@ -89,8 +89,8 @@ impl Ended {
     pub fn close(self) -> Tally
         ensures { λ r. ⌜ r ≡ self .tally ⌝ }
     {
-        let Ended { tally } = self;
-        tally
+        let Ended { tally: kept } = self;
+        kept
     }
 }
 
@@ -99,7 +99,7 @@ impl Loaded {
     pub fn discard(self) -> usize
         ensures { λ r. ⌜ r ≡ self .copies ⌝ }
     {
-        let Loaded { copies } = self;
-        copies
+        let Loaded { copies: unused } = self;
+        unused
     }
 }
