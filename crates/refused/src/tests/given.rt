@@ -78,21 +78,21 @@ pub const SOME_FRAME: Frame = Frame {
 };
 
 // A view of the scene; were it refused, of one without cells.
-pub fn scene() -> SceneView<'static> {
+pub(crate) fn scene() -> SceneView<'static> {
     let mut scene = SceneView::new();
     let _ = scene.take(SCENE);
     scene
 }
 
 // A view of the plan; were it refused, of one without records.
-pub fn plan() -> PlanView<'static> {
+pub(crate) fn plan() -> PlanView<'static> {
     let mut plan = PlanView::new();
     let _ = plan.take(2, &COPIES, &EDGES);
     plan
 }
 
 // A run of the two triangles, before its first turn.
-pub fn started<D: Medium>(
+pub(crate) fn started<D: Medium>(
     plan: &PlanView,
     table: &mut LinkTable,
     medium: &D,
@@ -113,14 +113,14 @@ pub fn started<D: Medium>(
 }
 
 // A refusal's number and its last value, or zeros where nothing is refused.
-pub fn refusal<T: Drop>(answer: Result<T, RunFault>) -> (usize, usize) {
+pub(crate) fn refusal<T: Drop>(answer: Result<T, RunFault>) -> (usize, usize) {
     match answer {
         Ok(_) => (0, 0),
         Err(fault) => (fault.number(), fault.last()),
     }
 }
 
-pub fn load_refusal(answer: Result<Loaded, RunFault>) -> (usize, usize) {
+pub(crate) fn load_refusal(answer: Result<Loaded, RunFault>) -> (usize, usize) {
     match answer {
         Ok(loaded) => {
             loaded.discard();
