@@ -1,4 +1,6 @@
 // A cabinet: a scene is laid out over its boards, run, and listed.
+#![tactic(auto)]
+
 pub mod listed;
 mod page;
 pub mod prepare;

@@ -1,4 +1,6 @@
 // Runs each scene named by an argument as both programs do, and prints what they list, long listings by a digest.
+#![tactic(auto)]
+
 use cabinet::listed::list;
 use medium::medium::Medium;
 use medium::queue::Queue;

@@ -1,2 +1,4 @@
 // Circles: the boards turn in ascending order, round after round, until all are settled.
+#![tactic(auto)]
+
 pub mod settle;

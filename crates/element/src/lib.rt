@@ -1,4 +1,6 @@
 // Elements: what a copy of a vertex holds, and how two of them are joined.
+#![tactic(auto)]
+
 pub mod depth;
 pub mod element;
 pub mod force;

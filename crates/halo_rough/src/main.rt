@@ -1,4 +1,6 @@
 // Lists the run of a scene from standard input, over Script over Quota 8 over Queue.
+#![tactic(auto)]
+
 use cabinet::listed::list;
 use medium::queue::Queue;
 use medium::quota::{Limit, Quota};

@@ -1,4 +1,6 @@
 // Laying plans: the star forest of a divided scene.
+#![tactic(auto)]
+
 mod copies;
 mod edges;
 pub mod fault;

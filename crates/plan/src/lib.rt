@@ -1,4 +1,6 @@
 // Plans: which board keeps a copy of which vertex, and which copy is the root of which.
+#![tactic(auto)]
+
 mod check;
 pub mod fault;
 mod links;

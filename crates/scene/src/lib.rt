@@ -1,4 +1,6 @@
 // Scenes: the bytes that describe a divided surface, and a view of them.
+#![tactic(auto)]
+
 mod bytes;
 mod cell;
 mod check;

@@ -1,4 +1,6 @@
 // Turns: a board takes what waits for it, then puts what is due.
+#![tactic(auto)]
+
 mod receive;
 mod send;
 pub mod turn;

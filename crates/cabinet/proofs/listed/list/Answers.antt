@@ -10,8 +10,8 @@ use Rattle.cabinet.specs.Listed.{KindTold}
 use Rattle.cabinet.proofs.Told.{laid_in_front, laid_within, run_told, refusal_told}
 use Rattle.cabinet.proofs.listed.list.Goals as goal
 
-pub list-plan-requires : goal.list-plan-requires
-list-plan-requires g c =
+pub list_plan-requires : goal.list_plan-requires
+list_plan-requires g c =
     let prepared = c.in-Ok.ensures in
     let same : viewed c.prepare.new.scene ≡ scene_of c.args.bytes.now =
     ap (λ b. scene_of b.now) prepared.0 in
@@ -31,13 +31,13 @@ returns-in-Ok g c =
     let lanes = g.D.Medium.lanes c.args.medium in
     let ok : admits c.args.bytes.now ≡ true =
     subst (λ b. admits b ≡ true) (ap (λ x. x.now) prepared.0) c.prepare.new.scene.ok in
-    IfOk-weaker c.list-plan.result _ _ (λ page told. run_told c.args.bytes.now lanes (vec_items page) ok
+    IfOk-weaker c.list_plan.result _ _ (λ page told. run_told c.args.bytes.now lanes (vec_items page) ok
     prepared.1.copy_room prepared.1.edge_room
-    (subst (λ (s : Scene). KindTold s lanes (vec_items page)) same told)) c.list-plan.ensures
+    (subst (λ (s : Scene). KindTold s lanes (vec_items page)) same told)) c.list_plan.ensures
 
 pub returns-in-Err : goal.returns-in-Err
 returns-in-Err g c =
-    IfOk-weaker c.list-refusal.result _ _ (λ page told. refusal_told c.args.bytes.now
+    IfOk-weaker c.list_refusal.result _ _ (λ page told. refusal_told c.args.bytes.now
     (g.D.Medium.lanes c.args.medium) (vec_items page) c.in-Err.refusal c.new-scene.result
     c.prepare.new.scene c.args.bytes _ c.prepare.new.copies _ c.prepare.new.edges
-    refl refl refl c.in-Err.ensures told) c.list-refusal.ensures
+    refl refl refl c.in-Err.ensures told) c.list_refusal.ensures

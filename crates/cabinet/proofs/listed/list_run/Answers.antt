@@ -31,7 +31,7 @@ returns g c =
     } in
     let same = same_numbers s records edges n c.boards.ensures c.overlap.ensures c.kind.ensures
     (ap (λ r. length r.now) c.copies.ensures) (ap (λ r. length r.now) c.edges.ensures) in
-    IfOk-weaker c.list-turned.result _ _ (λ page e. record {
+    IfOk-weaker c.list_turned.result _ _ (λ page e. record {
       fresh = λ _. run_listed A g.met.E.Element.lawful s m m' (vec_items page) (begun.promise c.requires.laid)
           c.settle.result plan.boards records edges c.requires.laid (
             c.settle.ensures,
@@ -40,12 +40,12 @@ returns g c =
                 ++ boards_page A (reports plan.boards edges m'.links) records m'.copies plan.boards) same,
           );
       waits = λ k w. absurd (waiting_is_not_idle lanes k 64 w.a_lane idle w);
-    }) c.list-turned.ensures
+    }) c.list_turned.ensures
 
 pub returns-in-Err : goal.returns-in-Err
 returns-in-Err g c =
-    IfOk-weaker c.list-refusal.result _ _ (λ page told.
+    IfOk-weaker c.list_refusal.result _ _ (λ page told.
     run_refused g.E.Element.algebra (viewed c.args.scene.now) c.args.plan.now.copies.now
     (g.D.Medium.lanes c.args.medium) c.args.values.now c.begin.new.copies
     c.new-table.result.links c.begin.new.table.links c.in-Err.fault (vec_items page)
-    c.requires.kind c.requires.room c.in-Err.ensures.exact told) c.list-refusal.ensures
+    c.requires.kind c.requires.room c.in-Err.ensures.exact told) c.list_refusal.ensures

@@ -12,5 +12,5 @@ pub loop-board-preserved : goal.loop-board-preserved
 loop-board-preserved g c =
     next_board_added g.E.Element.algebra c.args.plan.now.copies.now c.args.values.now
     (λ _. Settled)
-    (vec_items c.args.page.now) (vec_items c.loop-board.page) (vec_items c.add-shown.new.page)
-    c.loop-board.board c.in-ok-add-shown.ensures c.loop-board.invariant
+    (vec_items c.args.page.now) (vec_items c.loop-board.page) (vec_items c.add_shown.new.page)
+    c.loop-board.board c.in_ok-add_shown.ensures c.loop-board.invariant

@@ -11,5 +11,5 @@ pub loop-board-preserved : goal.loop-board-preserved
 loop-board-preserved g c =
     next_board_added g.E.Element.algebra c.args.plan.now.copies.now c.args.values.now
     (reports c.args.plan.now.boards c.args.plan.now.edges.now c.args.table.now.links)
-    (vec_items c.args.page.now) (vec_items c.loop-board.page) (vec_items c.add-reported.new.page)
-    c.loop-board.board c.in-ok-add-reported.ensures c.loop-board.invariant
+    (vec_items c.args.page.now) (vec_items c.loop-board.page) (vec_items c.add_reported.new.page)
+    c.loop-board.board c.in_ok-add_reported.ensures c.loop-board.invariant

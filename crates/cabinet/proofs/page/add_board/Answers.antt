@@ -8,8 +8,8 @@ use Rattle.cabinet.proofs.Pages.{added_twice}
 use Rattle.cabinet.proofs.page.add_board.Goals as goal
 
 pub returns : goal.returns
-returns g c = IfOk-weaker c.add-copies.result _ _ (λ _ e. added_twice (vec_items c.args.page.now)
-    (vec_items c.add-line.new.page) (vec_items c.add-copies.new.page) (held c.board_line.result)
+returns g c = IfOk-weaker c.add_copies.result _ _ (λ _ e. added_twice (vec_items c.args.page.now)
+    (vec_items c.add_line.new.page) (vec_items c.add_copies.new.page) (held c.board_line.result)
     (board_line c.args.board c.args.report)
     (copies_page g.E.Element.algebra c.args.records.now c.args.values.now)
-    c.in-ok-add-line.ensures c.board_line.ensures e) c.add-copies.ensures
+    c.in_ok-add_line.ensures c.board_line.ensures e) c.add_copies.ensures

@@ -14,14 +14,14 @@ loop-record-preserved g c =
     let after = c.next.new.self in
     let z = Zip-more before after c.next.result (c.in-Some.record, c.in-Some.value) c.in-Some.is
     c.next.ensures.steps in
-    next_copy_added g.E.Element.algebra (vec_items c.loop-record.page) (vec_items c.add-line.new.page)
-    (held c.copy-line.result)
+    next_copy_added g.E.Element.algebra (vec_items c.loop-record.page) (vec_items c.add_line.new.page)
+    (held c.copy_line.result)
     (vec_items c.args.page.now
     ++ copies_page g.E.Element.algebra c.args.records.now c.args.values.now)
     c.in-Some.record.now c.in-Some.value.now c.pack.result
     (iter_rest (zip_first before)) (iter_rest (zip_first after))
     (iter_rest (zip_second before)) (iter_rest (zip_second after))
-    c.in-ok-add-line.ensures c.copy-line.ensures c.pack.ensures z.0 z.1
+    c.in_ok-add_line.ensures c.copy_line.ensures c.pack.ensures z.0 z.1
     c.loop-record.invariant
 
 pub returns : goal.returns

@@ -11,8 +11,8 @@ loop-p-init g c =
     no_board_turned g.E.Element.algebra g.met.E.Element.lawful plan.boards plan.copies.now
     plan.edges.now _
 
-pub returns-in-err-turn : goal.returns-in-err-turn
-returns-in-err-turn g c =
+pub returns-in_err-turn : goal.returns-in_err-turn
+returns-in_err-turn g c =
     let plan = c.args.plan.now in
     let lanes = g.D.Medium.lanes in
     let p = err_from_is_err_and c.from-residual.result c.from-residual.ensures.1 in
@@ -23,13 +23,13 @@ returns-in-err-turn g c =
     (moment c.loop-p.turning.tally c.loop-p.table.links c.loop-p.copies (lanes c.loop-p.medium))
     (moment c.turn.new.self.tally c.turn.new.table.links c.turn.new.copies
     (lanes c.turn.new.medium))
-    c.loop-p.p _ (omega arith) c.loop-p.invariant c.in-err-turn.ensures.exact)
+    c.loop-p.p _ (omega arith) c.loop-p.invariant c.in_err-turn.ensures.exact)
 
 pub loop-p-preserved : goal.loop-p-preserved
 loop-p-preserved g c =
     let plan = c.args.plan.now in
     let lanes = g.D.Medium.lanes in
-    let turned = c.in-ok-turn.ensures in
+    let turned = c.in_ok-turn.ensures in
     next_board_turned g.E.Element.algebra g.met.E.Element.lawful plan.boards plan.copies.now
     plan.edges.now
     (moment c.args.turning.now.tally c.args.table.now.links c.args.copies.now
@@ -37,4 +37,4 @@ loop-p-preserved g c =
     (moment c.loop-p.turning.tally c.loop-p.table.links c.loop-p.copies (lanes c.loop-p.medium))
     (moment c.turn.new.self.tally c.turn.new.table.links c.turn.new.copies
     (lanes c.turn.new.medium))
-    c.loop-p.p c.in-ok-turn.field-0 c.loop-p.invariant turned.exact turned.promise
+    c.loop-p.p c.in_ok-turn.field-0 c.loop-p.invariant turned.exact turned.promise

@@ -22,5 +22,5 @@ loop-k-preserved g c =
     subst (λ (n : ℕ). UnsettledCircles A plan.boards plan.copies.now plan.edges.now start n after)
     (sym (add-one c.loop-k.k))
     (one_more c.loop-k.k before after c.loop-k.invariant
-    (unsettled_from _ (sym c.all-settled.ensures ∙ c.if-all-settled.false))
-    c.in-ok-circle.ensures)
+    (unsettled_from _ (sym c.all_settled.ensures ∙ c.if-all_settled.false))
+    c.in_ok-circle.ensures)

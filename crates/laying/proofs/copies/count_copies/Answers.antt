@@ -6,8 +6,8 @@ use Rattle.laying.proofs.Gather.{length_more, many_le}
 use Rattle.laying.proofs.Sizes.{row_size}
 use Rattle.laying.proofs.copies.count_copies.Goals as goal
 
-pub overflow-add-k : goal.overflow-add-k
-overflow-add-k c =
+pub overflow_add-k : goal.overflow_add-k
+overflow_add-k c =
     let few = many_le (flag (row c.args.table.now c.loop-p.p)) c.args.n in
     let small : c.loop-p.k + c.count-k.result ≤ 16384 =
     omega (arith, c.loop-p.invariant.1, few, c.count-k.ensures)

@@ -7,8 +7,8 @@ use Rattle.laying.proofs.copies.write_copies.Goals as goal
 pub loop-p-init : goal.loop-p-init
 loop-p-init c = written_none c.args.out.now 0
 
-pub write-row-k-requires : goal.write-row-k-requires
-write-row-k-requires c =
+pub write_row-k-requires : goal.write_row-k-requires
+write_row-k-requires c =
     let f = board_copies c.args.table.now c.args.n in
     let left = room f c.loop-p.p c.args.boards c.loop-p-test.true in
     record {
@@ -23,15 +23,15 @@ loop-p-preserved c =
     c.loop-p.p
     0
     c.loop-p.k
-    c.write-row-k.result
+    c.write_row-k.result
     c.args.out.now
     c.loop-p.out
-    c.write-row-k.new.out
+    c.write_row-k.new.out
     (omega arith)
     c.loop-p.invariant.0
     c.loop-p.invariant.1
-    c.write-row-k.ensures.place
-    c.write-row-k.ensures.after
+    c.write_row-k.ensures.place
+    c.write_row-k.ensures.after
 
 pub returns : goal.returns
 returns c =

@@ -7,8 +7,8 @@ use Rattle.laying.proofs.copies.write_row.Goals as goal
 pub loop-v-init : goal.loop-v-init
 loop-v-init c = written_none c.args.out.now c.args.at
 
-pub write-copy-k-requires : goal.write-copy-k-requires
-write-copy-k-requires c =
+pub write_copy-k-requires : goal.write_copy-k-requires
+write_copy-k-requires c =
     let left = room (copy_at c.args.row.now c.args.p) c.loop-v.v c.args.n c.loop-v-test.true in
     record {
       low = omega (arith, c.requires.small);
@@ -22,12 +22,12 @@ loop-v-preserved c =
     c.loop-v.v
     c.args.at
     c.loop-v.k
-    c.write-copy-k.result
+    c.write_copy-k.result
     c.args.out.now
     c.loop-v.out
-    c.write-copy-k.new.out
+    c.write_copy-k.new.out
     (omega arith)
     c.loop-v.invariant.0
     c.loop-v.invariant.1
-    c.write-copy-k.ensures.place
-    c.write-copy-k.ensures.after
+    c.write_copy-k.ensures.place
+    c.write_copy-k.ensures.after

@@ -6,12 +6,12 @@ use Rattle.laying.specs.Tables.{ith_root, ghost_in}
 use Rattle.laying.proofs.Gather.{many_more, many_le, byte_le}
 use Rattle.laying.proofs.edges.count_board.Goals as goal
 
-pub is-ghost-requires : goal.is-ghost-requires
-is-ghost-requires c =
+pub is_ghost-requires : goal.is_ghost-requires
+is_ghost-requires c =
     All-get_or (λ r. r.vertex < 1024) c.args.roots.now c.loop-i.i _ c.loop-i-test.true c.requires.low
 
-pub overflow-add-k : goal.overflow-add-k
-overflow-add-k c =
+pub overflow_add-k : goal.overflow_add-k
+overflow_add-k c =
     let t : ℕ → Bool = λ i. ghost_in c.args.mine.now c.args.p (ith_root c.args.roots.now i) in
     let i = c.loop-i.i in
     let small : c.loop-i.k + c.from-k.result ≤ 2048 =

@@ -9,8 +9,8 @@ use Rattle.laying.proofs.edges.write_board.Goals as goal
 pub loop-i-init : goal.loop-i-init
 loop-i-init c = written_none c.args.out.now c.args.at
 
-pub write-edge-k-requires : goal.write-edge-k-requires
-write-edge-k-requires c =
+pub write_edge-k-requires : goal.write_edge-k-requires
+write_edge-k-requires c =
     let roots = c.args.roots.now in
     let i = c.loop-i.i in
     let f : ℕ → List Edge = λ k. edge_at c.args.mine.now c.args.leaves.now c.args.p (ith_root roots k) in
@@ -30,12 +30,12 @@ loop-i-preserved c =
     c.loop-i.i
     c.args.at
     c.loop-i.k
-    c.write-edge-k.result
+    c.write_edge-k.result
     c.args.out.now
     c.loop-i.out
-    c.write-edge-k.new.out
+    c.write_edge-k.new.out
     (omega arith)
     c.loop-i.invariant.0
     c.loop-i.invariant.1
-    c.write-edge-k.ensures.place
-    c.write-edge-k.ensures.after
+    c.write_edge-k.ensures.place
+    c.write_edge-k.ensures.after

@@ -7,8 +7,8 @@ use Rattle.laying.proofs.edges.write_edges.Goals as goal
 pub loop-p-init : goal.loop-p-init
 loop-p-init c = written_none c.args.out.now 0
 
-pub write-board-k-requires : goal.write-board-k-requires
-write-board-k-requires c =
+pub write_board-k-requires : goal.write_board-k-requires
+write_board-k-requires c =
     let f = board_edges c.args.table.now c.args.numbers.now c.args.roots.now in
     let left = room f c.loop-p.p c.args.boards c.loop-p-test.true in
     record {
@@ -23,15 +23,15 @@ loop-p-preserved c =
     c.loop-p.p
     0
     c.loop-p.k
-    c.write-board-k.result
+    c.write_board-k.result
     c.args.out.now
     c.loop-p.out
-    c.write-board-k.new.out
+    c.write_board-k.new.out
     (omega arith)
     c.loop-p.invariant.0
     c.loop-p.invariant.1
-    c.write-board-k.ensures.place
-    c.write-board-k.ensures.after
+    c.write_board-k.ensures.place
+    c.write_board-k.ensures.after
 
 pub returns : goal.returns
 returns c =

@@ -6,9 +6,9 @@ use Rattle.forest.proofs.Accepted.{laid_plan_is_sound}
 use Rattle.laying.specs.Seen.{seen}
 use Rattle.laying.proofs.laying.lay.Goals as goal
 
-pub lay-seen-requires : goal.lay-seen-requires
+pub lay_seen-requires : goal.lay_seen-requires
 unfolding seen
-lay-seen-requires c = sound c.args.scene.now.bytes.now c.args.scene.now.ok
+lay_seen-requires c = sound c.args.scene.now.bytes.now c.args.scene.now.ok
 
 pub returns : goal.returns
 unfolding seen
@@ -16,7 +16,7 @@ returns c =
     let bytes = c.args.scene.now.bytes.now in
     let ok = sound bytes c.args.scene.now.ok in
     record {
-      exact = c.lay-seen.ensures;
+      exact = c.lay_seen.ensures;
       forest = star_forest (scene_of bytes) ok;
       rules = laid_plan_is_sound (scene_of bytes) ok;
     }

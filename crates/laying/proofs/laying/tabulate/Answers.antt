@@ -8,7 +8,7 @@ use Rattle.laying.proofs.laying.tabulate.Goals as goal
 pub returns : goal.returns
 returns c =
     let s = seen c.args.scene.now in
-    let table = c.keep-all-kept.result in
+    let table = c.keep_all-kept.result in
     let numbers = c.numbers-numbers.result in
     let owners = c.owners.result in
     let all_boards = c.boards-boards.ensures in
@@ -22,7 +22,7 @@ returns c =
           table
           numbers
           owners
-          c.keep-all-kept.ensures
+          c.keep_all-kept.ensures
           (λ p h v l.
           c.numbers-numbers.ensures p (omega (arith, all_boards)) v (omega (arith, all_vertices))
           ∙ ap (λ n. number_in table n p v) all_vertices)

@@ -6,14 +6,14 @@ use Rattle.laying.proofs.Gather.{many_more, many_le, byte_le}
 use Rattle.laying.proofs.Layers.{filled_more}
 use Rattle.laying.proofs.numbers.number_row.Goals as goal
 
-pub overflow-cast-numbers : goal.overflow-cast-numbers
-overflow-cast-numbers c =
+pub overflow_cast-numbers : goal.overflow_cast-numbers
+overflow_cast-numbers c =
     let f = flag c.args.mine.now in
     let small : c.loop-v.k < 65536 = omega (arith, c.loop-v.invariant.next, many_le f c.loop-v.v) in
     search rules
 
-pub overflow-add-k : goal.overflow-add-k
-overflow-add-k c =
+pub overflow_add-k : goal.overflow_add-k
+overflow_add-k c =
     let f = flag c.args.mine.now in
     let v = c.loop-v.v in
     let small : c.loop-v.k + c.from-k.result ≤ 16384 =

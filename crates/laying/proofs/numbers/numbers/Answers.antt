@@ -11,8 +11,8 @@ use Rattle.laying.proofs.numbers.numbers.Goals as goal
 pub loop-p-init : goal.loop-p-init
 loop-p-init c = record { full = refl; next = refl; done = λ q h. absurd (omega arith) }
 
-pub number-row-requires : goal.number-row-requires
-number-row-requires c =
+pub number_row-requires : goal.number_row-requires
+number_row-requires c =
     record {
       few =
           omega (
@@ -23,8 +23,8 @@ number-row-requires c =
       small = c.requires.small;
     }
 
-pub overflow-add-first : goal.overflow-add-first
-overflow-add-first c =
+pub overflow_add-first : goal.overflow_add-first
+overflow_add-first c =
     let table = c.args.table.now in
     let n = c.args.n in
     let p = c.loop-p.p in
@@ -45,7 +45,7 @@ loop-p-preserved c =
     let n = c.args.n in
     let p = c.loop-p.p in
     let rows = c.loop-p.numbers in
-    let here = c.number-row.result in
+    let here = c.number_row.result in
     let P : ℕ → List ℕ → Type 0 = λ q r. Holds r n (number_in table n q) in
     record {
       full = length-set rows p here ∙ c.loop-p.invariant.full;
@@ -66,5 +66,5 @@ loop-p-preserved c =
           []
           (omega arith)
           c.loop-p.invariant.done
-          (λ v h. c.number-row.ensures v h ∙ ap (λ k. k + many (flag (row table p)) v) c.loop-p.invariant.next);
+          (λ v h. c.number_row.ensures v h ∙ ap (λ k. k + many (flag (row table p)) v) c.loop-p.invariant.next);
     }

@@ -16,7 +16,7 @@ loop-k-preserved c =
     let cell = cell_of c.args.scene.now in (
       search rules,
       λ x h.
-          c.take-in-inside.ensures x h
+          c.take_in-inside.ensures x h
           ∙ reached_is s.cells t inside touched marks (cell x) (corners_low s c.requires x h)
           ∙ ap (λ n. overlaps s.cells c.args.p n (cell x)) (sym (add-one k)),
     )

@@ -16,7 +16,7 @@ loop-c-preserved c = (
   λ v h.
       let inside = c.args.inside.now in
       let t : ℕ → Bool = λ k. flag inside k && on v (cell_of c.args.scene.now k) in
-      c.mark-cell.ensures v h
+      c.mark_cell.ensures v h
       ∙ ap (λ b. b || t c.loop-c.c) (c.loop-c.invariant.1 v h)
       ∙ sym (some_more t c.loop-c.c),
 )

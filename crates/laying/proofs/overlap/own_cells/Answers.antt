@@ -11,8 +11,8 @@ loop-c-preserved c =
     let p = c.args.p in
     let i = c.loop-c.c in
     let row = c.loop-c.inside in
-    let b = c.owned-by.result in
+    let b = c.owned_by.result in
     let P : ℕ → Bool → Type 0 = λ k x. x ≡ eqb (cell_of scene k).board p in (
       length-set row i b ∙ c.loop-c.invariant.0,
-      filled_more P row i b false (omega arith) c.loop-c.invariant.1 c.owned-by.ensures,
+      filled_more P row i b false (omega arith) c.loop-c.invariant.1 c.owned_by.ensures,
     )

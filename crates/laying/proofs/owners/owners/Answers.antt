@@ -16,8 +16,8 @@ loop-p-preserved c =
       search rules,
       λ v h.
           let t : ℕ → Bool = λ q. owns_cell_on s q v in
-          let mine = flag c.own-vertices-mine.result v in
-          let here : mine ≡ t p = c.own-vertices-mine.ensures v (omega (arith, c.requires.few_vertices)) in
+          let mine = flag c.own_vertices-mine.result v in
+          let here : mine ≡ t p = c.own_vertices-mine.ensures v (omega (arith, c.requires.few_vertices)) in
           let low : v < c.vertices.result = omega (arith, c.vertices.ensures) in
           c.settle.ensures v low
           ∙ ap (λ o. cond (ltb o p) o (cond mine p (suc p))) (c.loop-p.invariant.1 v h)

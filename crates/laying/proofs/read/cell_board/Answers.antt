@@ -8,4 +8,4 @@ pub returns : goal.returns
 unfolding seen
 returns c =
     let there = board_some (seen c.args.scene.now) c.args.c c.requires in
-    c.unwrap-or.ensures ∙ ap (λ o. unwrap_or o 0) (c.cell-board.ensures ∙ there)
+    c.unwrap_or.ensures ∙ ap (λ o. unwrap_or o 0) (c.cell_board.ensures ∙ there)

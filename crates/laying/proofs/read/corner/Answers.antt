@@ -8,4 +8,4 @@ pub returns : goal.returns
 unfolding seen
 returns c =
     let there = corner_some (seen c.args.scene.now) c.args.c c.requires.within c.args.k c.requires.there in
-    c.unwrap-or.ensures ∙ ap (λ o. unwrap_or o 0) (c.corner.ensures ∙ there)
+    c.unwrap_or.ensures ∙ ap (λ o. unwrap_or o 0) (c.corner.ensures ∙ there)

@@ -8,8 +8,8 @@ use Rattle.laying.proofs.roots.roots.Goals as goal
 pub loop-q-init : goal.loop-q-init
 loop-q-init c = record { full = refl; next = refl; done = refl }
 
-pub write-row-k-requires : goal.write-row-k-requires
-write-row-k-requires c =
+pub write_row-k-requires : goal.write_row-k-requires
+write_row-k-requires c =
     let owners = c.args.owners.now in
     let numbers = c.args.numbers.now in
     let n = c.args.n in
@@ -37,20 +37,20 @@ loop-q-preserved c =
     omega (arith, c.loop-q.invariant.next, c.loop-q.invariant.full, few, c.requires.small)
     in
     record {
-      full = c.write-row-k.auto.out ∙ c.loop-q.invariant.full;
-      next = omega (arith, c.loop-q.invariant.next, length_more f q, c.write-row-k.ensures.place);
+      full = c.write_row-k.auto.out ∙ c.loop-q.invariant.full;
+      next = omega (arith, c.loop-q.invariant.next, length_more f q, c.write_row-k.ensures.place);
       done =
           filled_up
           f
           q
           k
-          c.write-row-k.result
+          c.write_row-k.result
           c.loop-q.roots
-          c.write-row-k.new.out
+          c.write_row-k.new.out
           fits
           c.loop-q.invariant.done
-          c.write-row-k.ensures.place
-          c.write-row-k.ensures.after;
+          c.write_row-k.ensures.place
+          c.write_row-k.ensures.after;
     }
 
 pub returns : goal.returns

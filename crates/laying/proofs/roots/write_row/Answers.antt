@@ -7,8 +7,8 @@ use Rattle.laying.proofs.roots.write_row.Goals as goal
 pub loop-v-init : goal.loop-v-init
 loop-v-init c = written_none c.args.out.now c.args.at
 
-pub write-root-k-requires : goal.write-root-k-requires
-write-root-k-requires c =
+pub write_root-k-requires : goal.write_root-k-requires
+write_root-k-requires c =
     let f = root_at c.args.owners.now c.args.numbers.now c.args.q in
     let left = room f c.loop-v.v c.args.n c.loop-v-test.true in
     record {
@@ -23,12 +23,12 @@ loop-v-preserved c =
     c.loop-v.v
     c.args.at
     c.loop-v.k
-    c.write-root-k.result
+    c.write_root-k.result
     c.args.out.now
     c.loop-v.out
-    c.write-root-k.new.out
+    c.write_root-k.new.out
     (omega arith)
     c.loop-v.invariant.0
     c.loop-v.invariant.1
-    c.write-root-k.ensures.place
-    c.write-root-k.ensures.after
+    c.write_root-k.ensures.place
+    c.write_root-k.ensures.after

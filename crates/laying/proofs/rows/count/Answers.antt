@@ -4,8 +4,8 @@ use Rattle.laying.specs.Rows.{flag}
 use Rattle.laying.proofs.Gather.{many_more, many_le, byte_le}
 use Rattle.laying.proofs.rows.count.Goals as goal
 
-pub overflow-add-k : goal.overflow-add-k
-overflow-add-k c =
+pub overflow_add-k : goal.overflow_add-k
+overflow_add-k c =
     let f = flag c.args.row.now in
     let v = c.loop-v.v in
     let small : c.loop-v.k + c.from-k.result ≤ 2048 =

@@ -3,8 +3,8 @@ use Rattle.std.proofs.Common.{◌≤◌, arith, rules}
 use Rattle.medium.specs.Appending.{both_appended, few_appended}
 use Rattle.medium.proofs.script.put_twice.Goals as goal
 
-pub overflow-add-result : goal.overflow-add-result
-overflow-add-result g c =
+pub overflow_add-result : goal.overflow_add-result
+overflow_add-result g c =
     let lanes = g.M.Medium.lanes in
     let few = g.met.M.Medium.few in
     let from = c.args.from in

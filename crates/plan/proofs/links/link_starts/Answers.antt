@@ -19,16 +19,16 @@ next c =
 
 pub loop-x-init : goal.loop-x-init
 loop-x-init c = (
-  c.link-counts-starts.ensures.long,
+  c.link_counts-starts.ensures.long,
   sym (before_first c.args.edges.now),
   (
     λ y b. absurd (omega arith),
-    λ y a b. c.link-counts-starts.ensures.counts y b,
+    λ y a b. c.link_counts-starts.ensures.counts y b,
   ),
 )
 
-pub overflow-add-before : goal.overflow-add-before
-overflow-add-before c =
+pub overflow_add-before : goal.overflow_add-before
+overflow_add-before c =
     omega (arith, next c, kept_le (λ e. ltb (link_of e) (c.loop-x.x + 1)) c.args.edges.now)
 
 pub loop-x-preserved : goal.loop-x-preserved

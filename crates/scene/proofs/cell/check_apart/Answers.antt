@@ -10,11 +10,11 @@ pub loop-i-preserved : goal.loop-i-preserved
 loop-i-preserved c =
     turn_next (pair_rules c.args.head c.args.bytes.now c.args.at)
     c.loop-i.i c.args.head.corners _ c.loop-i.invariant
-    c.loop-i-test.true c.in-ok-check-pairs.ensures
+    c.loop-i-test.true c.in_ok-check_pairs.ensures
 
-pub returns-in-err-check-pairs : goal.returns-in-err-check-pairs
-returns-in-err-check-pairs c =
-    let bad = c.in-err-check-pairs in
+pub returns-in_err-check_pairs : goal.returns-in_err-check_pairs
+returns-in_err-check_pairs c =
+    let bad = c.in_err-check_pairs in
     turn_exit (pair_rules c.args.head c.args.bytes.now c.args.at)
     c.loop-i.i c.args.head.corners _ c.loop-i.invariant
     c.loop-i-test.true c.from-residual.result bad.field-0.0

@@ -16,30 +16,30 @@ all_apart h b at = flat_map (pair_rules h b at) (range_with_len 0 h.corners)
 abbrev words_unused : Head → List ℕ → ℕ → List (Rule RecordFault)
 words_unused h b at = flat_map (word_rule h b at) (range_with_len 0 (3 * h.corners))
 
-pub returns-in-err-check-corners : goal.returns-in-err-check-corners
-returns-in-err-check-corners c =
+pub returns-in_err-check_corners : goal.returns-in_err-check_corners
+returns-in_err-check_corners c =
     let h = c.args.head in
     let b = c.args.bytes.now in
     let at = c.args.at in
-    let bad = c.in-err-check-corners in
-    let r = c.from-residual-in-err-check-corners in
+    let bad = c.in_err-check_corners in
+    let r = c.from-residual-in_err-check_corners in
     let rest = all_apart h b at ++ words_unused h b at in
     exit_is r.result bad.field-0.0 r.ensures.1
     ∙ stopped (on_vertices h b at) rest bad.field-0.0 bad.ensures
-    ∙ past (start_rules h b at) (on_vertices h b at ++ rest) c.in-ok-check-start.ensures
+    ∙ past (start_rules h b at) (on_vertices h b at ++ rest) c.in_ok-check_start.ensures
 
-pub returns-in-err-check-apart : goal.returns-in-err-check-apart
-returns-in-err-check-apart c =
+pub returns-in_err-check_apart : goal.returns-in_err-check_apart
+returns-in_err-check_apart c =
     let h = c.args.head in
     let b = c.args.bytes.now in
     let at = c.args.at in
-    let bad = c.in-err-check-apart in
-    let r = c.from-residual-in-err-check-apart in
+    let bad = c.in_err-check_apart in
+    let r = c.from-residual-in_err-check_apart in
     let rest = all_apart h b at ++ words_unused h b at in
     exit_is r.result bad.field-0.0 r.ensures.1
     ∙ stopped (all_apart h b at) (words_unused h b at) bad.field-0.0 bad.ensures
-    ∙ past (on_vertices h b at) rest c.in-ok-check-corners.ensures
-    ∙ past (start_rules h b at) (on_vertices h b at ++ rest) c.in-ok-check-start.ensures
+    ∙ past (on_vertices h b at) rest c.in_ok-check_corners.ensures
+    ∙ past (start_rules h b at) (on_vertices h b at ++ rest) c.in_ok-check_start.ensures
 
 pub returns : goal.returns
 returns c =
@@ -47,7 +47,7 @@ returns c =
     let b = c.args.bytes.now in
     let at = c.args.at in
     let rest = all_apart h b at ++ words_unused h b at in
-    c.check-words.ensures
-    ∙ past (all_apart h b at) (words_unused h b at) c.in-ok-check-apart.ensures
-    ∙ past (on_vertices h b at) rest c.in-ok-check-corners.ensures
-    ∙ past (start_rules h b at) (on_vertices h b at ++ rest) c.in-ok-check-start.ensures
+    c.check_words.ensures
+    ∙ past (all_apart h b at) (words_unused h b at) c.in_ok-check_apart.ensures
+    ∙ past (on_vertices h b at) rest c.in_ok-check_corners.ensures
+    ∙ past (start_rules h b at) (on_vertices h b at ++ rest) c.in_ok-check_start.ensures

@@ -11,11 +11,11 @@ pub loop-i-preserved : goal.loop-i-preserved
 loop-i-preserved c =
     turn_next (corner_rule c.args.head c.args.bytes.now c.args.at)
     c.loop-i.i c.args.head.corners _ c.loop-i.invariant
-    c.loop-i-test.true c.in-ok-check-corner.ensures
+    c.loop-i-test.true c.in_ok-check_corner.ensures
 
-pub returns-in-err-check-corner : goal.returns-in-err-check-corner
-returns-in-err-check-corner c =
-    let bad = c.in-err-check-corner in
+pub returns-in_err-check_corner : goal.returns-in_err-check_corner
+returns-in_err-check_corner c =
+    let bad = c.in_err-check_corner in
     turn_exit (corner_rule c.args.head c.args.bytes.now c.args.at)
     c.loop-i.i c.args.head.corners _ c.loop-i.invariant
     c.loop-i-test.true c.from-residual.result bad.field-0.0

@@ -11,11 +11,11 @@ pub loop-j-preserved : goal.loop-j-preserved
 loop-j-preserved c =
     turn_next (pair_rule c.args.bytes.now c.args.at c.args.i)
     c.loop-j.j c.args.head.corners _ c.loop-j.invariant
-    c.loop-j-test.true c.in-ok-check-pair.ensures
+    c.loop-j-test.true c.in_ok-check_pair.ensures
 
-pub returns-in-err-check-pair : goal.returns-in-err-check-pair
-returns-in-err-check-pair c =
-    let bad = c.in-err-check-pair in
+pub returns-in_err-check_pair : goal.returns-in_err-check_pair
+returns-in_err-check_pair c =
+    let bad = c.in_err-check_pair in
     turn_exit (pair_rule c.args.bytes.now c.args.at c.args.i)
     c.loop-j.j c.args.head.corners _ c.loop-j.invariant
     c.loop-j-test.true c.from-residual.result bad.field-0.0

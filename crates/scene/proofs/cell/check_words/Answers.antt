@@ -12,11 +12,11 @@ pub loop-w-preserved : goal.loop-w-preserved
 loop-w-preserved c =
     turn_next (word_rule c.args.head c.args.bytes.now c.args.at)
     c.loop-w.w (3 * c.args.head.corners) _ c.loop-w.invariant
-    c.loop-w-test.true c.in-ok-check-word.ensures
+    c.loop-w-test.true c.in_ok-check_word.ensures
 
-pub returns-in-err-check-word : goal.returns-in-err-check-word
-returns-in-err-check-word c =
-    let bad = c.in-err-check-word in
+pub returns-in_err-check_word : goal.returns-in_err-check_word
+returns-in_err-check_word c =
+    let bad = c.in_err-check_word in
     turn_exit (word_rule c.args.head c.args.bytes.now c.args.at)
     c.loop-w.w (3 * c.args.head.corners) _ c.loop-w.invariant
     c.loop-w-test.true c.from-residual.result bad.field-0.0

@@ -9,12 +9,12 @@ use Rattle.scene.proofs.check.check.Goals as goal
 pub returns : goal.returns
 returns c =
     let b = c.args.bytes.now in
-    let is = c.check-records.ensures in
-    let exact : admits b ≡ is_ok c.check-records.result = verdict_ok (scene_rules b) ∙ sym (ap is_ok is) in
+    let is = c.check_records.ensures in
+    let exact : admits b ≡ is_ok c.check_records.result = verdict_ok (scene_rules b) ∙ sym (ap is_ok is) in
     let small : (i : ℕ) → byte_at b i < 256 = λ i. omega (arith, c.type-inv.bytes i) in
     record {
       answer = is;
       exact = exact;
-      meaning = accepted b small (is_ok c.check-records.result) exact;
+      meaning = accepted b small (is_ok c.check_records.result) exact;
       back = read_back b;
     }

@@ -6,32 +6,32 @@ use Rattle.scene.specs.Rules.{verdict, cell_record, end_rules, in_record, broken
 use Rattle.scene.proofs.Verdicts.{past, stopped, exit_is, record_passed, record_stopped}
 use Rattle.scene.proofs.check.check_body.Goals as goal
 
-pub returns-in-err-check-cells : goal.returns-in-err-check-cells
-returns-in-err-check-cells c =
+pub returns-in_err-check_cells : goal.returns-in_err-check_cells
+returns-in_err-check_cells c =
     let h = c.args.head in
     let b = c.args.bytes.now in
-    let bad = c.in-err-check-cells in
+    let bad = c.in_err-check_cells in
     let r = c.from-residual in
     let last = in_record (h.cells + 1) (end_rules b (cell_place h.corners h.cells)) in
     exit_is r.result bad.field-0.0 r.ensures.1
     ∙ stopped (flat_map (cell_record h b) (range_with_len 0 h.cells)) last bad.field-0.0 bad.ensures
 
-pub returns-in-err-in-record : goal.returns-in-err-in-record
-returns-in-err-in-record c =
+pub returns-in_err-in_record : goal.returns-in_err-in_record
+returns-in_err-in_record c =
     let h = c.args.head in
     let b = c.args.bytes.now in
-    let bad = c.in-err-in-record in
-    let r = c.from-residual-in-err-in-record in
+    let bad = c.in_err-in_record in
+    let r = c.from-residual-in_err-in_record in
     let count = c.from-cells.ensures in
     let rules = end_rules b (cell_place h.corners h.cells) in
     let is =
-    c.check-end.ensures
+    c.check_end.ensures
     ∙ ap (λ at. verdict (end_rules b at)) (c.cell_place.ensures.place ∙ ap (cell_place h.corners) count) in
-    let found = bad.ensures ∙ ap (λ n. broken (n + 1) c.check-end.result) count in
+    let found = bad.ensures ∙ ap (λ n. broken (n + 1) c.check_end.result) count in
     exit_is r.result _ r.ensures.1
-    ∙ record_stopped (h.cells + 1) rules c.check-end.result is bad.field-0.0 found
+    ∙ record_stopped (h.cells + 1) rules c.check_end.result is bad.field-0.0 found
     ∙ past (flat_map (cell_record h b) (range_with_len 0 h.cells)) (in_record (h.cells + 1) rules)
-    c.in-ok-check-cells.ensures
+    c.in_ok-check_cells.ensures
 
 pub returns : goal.returns
 returns c =
@@ -40,9 +40,9 @@ returns c =
     let count = c.from-cells.ensures in
     let rules = end_rules b (cell_place h.corners h.cells) in
     let is =
-    c.check-end.ensures
+    c.check_end.ensures
     ∙ ap (λ at. verdict (end_rules b at)) (c.cell_place.ensures.place ∙ ap (cell_place h.corners) count) in
-    let found = c.in-ok-in-record.ensures ∙ ap (λ n. broken (n + 1) c.check-end.result) count in
-    record_passed (h.cells + 1) rules c.check-end.result is found
+    let found = c.in_ok-in_record.ensures ∙ ap (λ n. broken (n + 1) c.check_end.result) count in
+    record_passed (h.cells + 1) rules c.check_end.result is found
     ∙ past (flat_map (cell_record h b) (range_with_len 0 h.cells)) (in_record (h.cells + 1) rules)
-    c.in-ok-check-cells.ensures
+    c.in_ok-check_cells.ensures

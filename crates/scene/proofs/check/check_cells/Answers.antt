@@ -15,22 +15,22 @@ loop-n-preserved c =
     let n = c.loop-n.n in
     let rules = cell_rules h b (cell_place h.corners n) in
     let more : n < h.cells = omega arith in
-    let is = c.check-cell.ensures ∙ ap (λ at. verdict (cell_rules h b at)) c.cell_place.ensures.place in
+    let is = c.check_cell.ensures ∙ ap (λ at. verdict (cell_rules h b at)) c.cell_place.ensures.place in
     turn_next (cell_record h b) n h.cells _ c.loop-n.invariant more
-    (record_passed (n + 1) rules c.check-cell.result is c.in-ok-in-record.ensures)
+    (record_passed (n + 1) rules c.check_cell.result is c.in_ok-in_record.ensures)
 
-pub returns-in-err-in-record : goal.returns-in-err-in-record
-returns-in-err-in-record c =
+pub returns-in_err-in_record : goal.returns-in_err-in_record
+returns-in_err-in_record c =
     let h = c.args.head in
     let b = c.args.bytes.now in
     let n = c.loop-n.n in
-    let bad = c.in-err-in-record in
+    let bad = c.in_err-in_record in
     let rules = cell_rules h b (cell_place h.corners n) in
     let more : n < h.cells = omega arith in
-    let is = c.check-cell.ensures ∙ ap (λ at. verdict (cell_rules h b at)) c.cell_place.ensures.place in
+    let is = c.check_cell.ensures ∙ ap (λ at. verdict (cell_rules h b at)) c.cell_place.ensures.place in
     turn_exit (cell_record h b) n h.cells _ c.loop-n.invariant more c.from-residual.result _
     c.from-residual.ensures.1
-    (record_stopped (n + 1) rules c.check-cell.result is bad.field-0.0 bad.ensures)
+    (record_stopped (n + 1) rules c.check_cell.result is bad.field-0.0 bad.ensures)
 
 pub returns : goal.returns
 returns c =

@@ -8,15 +8,15 @@ use Rattle.sums.specs.Sums.{sum_at}
 use Rattle.sums.proofs.OwnSums.{over_more}
 use Rattle.sums.proofs.own.set_copies.Goals as goal
 
-pub sum-of-requires : goal.sum-of-requires
-sum-of-requires g c = record {
+pub sum_of-requires : goal.sum_of-requires
+sum_of-requires g c = record {
   low = All-get_or _ c.args.records.now c.loop-n.n no_copy (omega arith) c.requires.low;
   long = c.requires.long;
 }
 
 pub loop-n-preserved : goal.loop-n-preserved
 loop-n-preserved g c =
-    ap₂ (λ cs x. set cs c.loop-n.n x) c.loop-n.invariant c.sum-of.ensures
+    ap₂ (λ cs x. set cs c.loop-n.n x) c.loop-n.invariant c.sum_of.ensures
     ∙ over_more (λ r. sum_at g.E.Element.algebra c.args.table.now r.board r.vertex)
     c.args.records.now c.args.copies.now c.loop-n.n no_copy (omega arith) c.requires.room
 

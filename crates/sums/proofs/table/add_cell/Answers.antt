@@ -22,7 +22,7 @@ loop-k-preserved g c =
     let l : c.loop-k.k < length (get_or (viewed v).cells n no_cell).corners =
     omega (arith, count, c.corners-k-end.ensures) in
     corner_step g.E.Element.algebra g.met.E.Element.lawful (viewed v) (view_sound v) n c.requires.cell
-    c.loop-k.k c.loop-k.table c.add-corner.new.table l c.add-corner.ensures c.loop-k.invariant
+    c.loop-k.k c.loop-k.table c.add_corner.new.table l c.add_corner.ensures c.loop-k.invariant
 
 pub returns : goal.returns
 returns g c =

@@ -5,8 +5,8 @@ use Rattle.scene.proofs.Viewing.{view_sound}
 use Rattle.sums.proofs.OwnSums.{board_low, corner_low}
 use Rattle.sums.proofs.table.add_corner.Goals as goal
 
-pub join-at-requires : goal.join-at-requires
-join-at-requires g c =
+pub join_at-requires : goal.join_at-requires
+join_at-requires g c =
     let s = viewed c.args.scene.now in
     let ok = view_sound c.args.scene.now in
     record {

@@ -8,11 +8,11 @@ use Rattle.sums.proofs.table.own_sums.Goals as goal
 pub loop-c-init : goal.loop-c-init
 loop-c-init g c =
     let A = g.E.Element.algebra in
-    subst (λ w. HoldsSums A [] (replicate table_size w)) (sym c.no-sum-table.ensures)
+    subst (λ w. HoldsSums A [] (replicate table_size w)) (sym c.no_sum-table.ensures)
     (none_held A g.met.E.Element.lawful)
 
 pub loop-c-preserved : goal.loop-c-preserved
-loop-c-preserved g c = c.add-cell.ensures
+loop-c-preserved g c = c.add_cell.ensures
 
 pub returns : goal.returns
 returns g c = record {

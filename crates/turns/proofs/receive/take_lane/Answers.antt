@@ -34,18 +34,18 @@ loop-k-preserved g c =
     let p = c.args.p in
     let k = c.loop-k.k in
     let v = c.loop-k.invariant in
-    let s = c.take-next-came.ensures in
+    let s = c.take_next-came.ensures in
     let here = ap (λ l. l q p) v.lanes_so ∙ without_here was q p k in
     record {
       all = v.all;
       lanes_so = s.lanes ∙ ap (λ l. shortened l q p) v.lanes_so ∙ without_one_more was q p k;
       held_so = steps_next g.E.Element.algebra c.args.ups.now c.args.downs.now p q
           (held c.loop-k.table.links c.loop-k.copies c.loop-k.branch.accepted)
-          (held c.take-next-came.new.table.links c.take-next-came.new.copies
-          c.take-next-came.result.accepted)
+          (held c.take_next-came.new.table.links c.take_next-came.new.copies
+          c.take_next-came.result.accepted)
           (was q p) _ k here s.held
           ∙ v.held_so;
-      item_so = some_item_next c.loop-k.branch.item c.take-next-came.result.item (was q p) _ k here s.item
+      item_so = some_item_next c.loop-k.branch.item c.take_next-came.result.item (was q p) _ k here s.item
           ∙ v.item_so;
       few = (omega arith, v.few.1);
     }

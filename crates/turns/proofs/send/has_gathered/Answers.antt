@@ -8,6 +8,6 @@ use Rattle.turns.proofs.send.has_gathered.Goals as goal
 pub loop-q-preserved : goal.loop-q-preserved
 loop-q-preserved c =
     let p = c.args.p in
-    ap₂ ◌&&◌ c.loop-q.invariant c.heard-all-all.ensures
+    ap₂ ◌&&◌ c.loop-q.invariant c.heard_all-all.ensures
     ∙ ap (λ k. others p k (λ q. leb (length (edges_between c.args.plan.now.edges.now q p))
     (accepted_in c.args.table.now.links q p))) (sym (add-one c.loop-q.q))

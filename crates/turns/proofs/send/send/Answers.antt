@@ -21,24 +21,24 @@ loop-q-preserved g c =
     let ups = edges_between edges p q in
     let downs = edges_between edges q p in
     let lanes = g.D.Medium.lanes in
-    let m = c.speak-to-spoke.result.made in
-    let l = c.speak-to-spoke.result.lost in
+    let m = c.speak_to-spoke.result.made in
+    let l = c.speak_to-spoke.result.lost in
     let spoken : (q ≡ p → ⊥) → Spoken p q (due A boards edges p links c.args.got.now q)
-    (due_frame A boards edges p links copies q) (lanes c.loop-q.medium) (lanes c.speak-to-spoke.new.medium)
+    (due_frame A boards edges p links copies q) (lanes c.loop-q.medium) (lanes c.speak_to-spoke.new.medium)
     m l
     = λ d. subst (λ (b : Bool). Spoken p q (item_due ups downs (link_at links p q).i b || get_or c.args.got.now q
     false)
     (frame_due A ups downs (link_at links p q).i (link_at links q p).j b copies)
-    (lanes c.loop-q.medium) (lanes c.speak-to-spoke.new.medium) m l)
-    c.has-gathered-gathered.ensures (c.speak-to-spoke.ensures.other d) in
+    (lanes c.loop-q.medium) (lanes c.speak_to-spoke.new.medium) m l)
+    c.has_gathered-gathered.ensures (c.speak_to-spoke.ensures.other d) in
     let few : bool_byte l ≤ bool_byte m = elim (cases_eq q p) [
-      | inl e ↦ let (a, b, d) = c.speak-to-spoke.ensures.itself e in omega (arith, ap bool_byte a, ap bool_byte b)
+      | inl e ↦ let (a, b, d) = c.speak_to-spoke.ensures.itself e in omega (arith, ap bool_byte a, ap bool_byte b)
       | inr d ↦ lost_was_made m l _ _ (spoken d).made_is (spoken d).lost_is
     ] in
     rw (c.from-made.ensures, c.from-lost.ensures) record {
       so_far = sent_next p (due A boards edges p links c.args.got.now) (due_frame A boards edges p links copies)
           (lanes c.args.medium.now) q (lanes c.loop-q.medium) c.loop-q.made c.loop-q.lost
-          c.loop-q.invariant.so_far (lanes c.speak-to-spoke.new.medium) m l c.speak-to-spoke.ensures.itself
+          c.loop-q.invariant.so_far (lanes c.speak_to-spoke.new.medium) m l c.speak_to-spoke.ensures.itself
           spoken;
       few = (omega (arith, few), omega (arith, byte_at_most_one m));
     }

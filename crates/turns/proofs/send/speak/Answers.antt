@@ -5,6 +5,6 @@ use Rattle.turns.proofs.send.speak.Goals as goal
 
 pub returns : goal.returns
 returns g c =
-    let (k, after, none) = c.put-is-lost-lost.ensures in
-    put_speaks c.args.p c.args.q _ _ k _ _ _ c.put-is-lost-lost.result after none
-    c.next-frame-frame.ensures (sym c.is-due.ensures ∙ c.if-not-is-due.false)
+    let (k, after, none) = c.put_is_lost-lost.ensures in
+    put_speaks c.args.p c.args.q _ _ k _ _ _ c.put_is_lost-lost.result after none
+    c.next_frame-frame.ensures (sym c.is_due.ensures ∙ c.if-not-is_due.false)

@@ -14,7 +14,7 @@ returns g c =
     c.args.board c.args.table.now.links c.receive-haul.new.table.links c.args.copies.now
     c.receive-haul.new.copies (lanes c.args.medium.now) (lanes c.receive-haul.new.medium)
     (lanes c.send-puts.new.medium) (replicate 8 false) c.receive-haul.new.got haul.taken
-    haul.accepted puts.made puts.lost c.in-ok-check-turn.ensures
+    haul.accepted puts.made puts.lost c.in_ok-check_turn.ensures
     c.args.table.now.full refl c.receive-haul.ensures.after c.send-puts.ensures.after in
     record {
       exact = exact;

@@ -8,8 +8,8 @@ returns g c = record {
   exact = search rules;
   promise = λ s laid copies lanes ts book losses run.
       let plan = c.args.plan.now in
-      c.report-on.ensures
+      c.report_on.ensures
       ∙ report_is_the_books g.E.Element.algebra g.met.E.Element.lawful s plan.boards plan.copies.now
       plan.edges.now plan.sound laid ts _ book losses run c.args.board
-      c.in-ok-check-board.ensures;
+      c.in_ok-check_board.ensures;
 }

@@ -10,13 +10,13 @@ pub count-requires : goal.count-requires
 count-requires g c =
     let plan = c.args.plan.now in
     let lanes = g.D.Medium.lanes in
-    let took = c.in-ok-counts.ensures in
+    let took = c.in_ok-counts.ensures in
     record {
       left = turn_is_left g.E.Element.algebra plan.boards plan.copies.now plan.edges.now
-          c.args.board c.args.self.now.tally c.args.table.now.links c.take-turn.new.table.links
-          c.args.copies.now c.take-turn.new.copies (lanes c.args.medium.now)
-          (lanes c.take-turn.new.medium) (sym c.is-over.ensures ∙ c.if-is-over.false)
-          c.in-ok-counts.counts took.exact;
+          c.args.board c.args.self.now.tally c.args.table.now.links c.take_turn.new.table.links
+          c.args.copies.now c.take_turn.new.copies (lanes c.args.medium.now)
+          (lanes c.take_turn.new.medium) (sym c.is_over.ensures ∙ c.if-is_over.false)
+          c.in_ok-counts.counts took.exact;
       few = took.few;
     }
 
@@ -26,27 +26,27 @@ returns g c =
     let plan = c.args.plan.now in
     let lanes = g.D.Medium.lanes in
     let exact = taken_is_accepted A plan.boards plan.copies.now plan.edges.now c.args.board
-    c.args.self.now.tally c.args.table.now.links c.take-turn.new.table.links
-    c.args.copies.now c.take-turn.new.copies (lanes c.args.medium.now)
-    (lanes c.take-turn.new.medium) (sym c.is-over.ensures ∙ c.if-is-over.false)
-    c.count.new.self.tally c.in-ok-counts.counts c.count.ensures
-    c.in-ok-counts.ensures.exact in
+    c.args.self.now.tally c.args.table.now.links c.take_turn.new.table.links
+    c.args.copies.now c.take_turn.new.copies (lanes c.args.medium.now)
+    (lanes c.take_turn.new.medium) (sym c.is_over.ensures ∙ c.if-is_over.false)
+    c.count.new.self.tally c.in_ok-counts.counts c.count.ensures
+    c.in_ok-counts.ensures.exact in
     record {
       exact = exact;
-      alone = c.take-turn.ensures.alone;
+      alone = c.take_turn.ensures.alone;
       still = tt;
       promise = λ s laid. answer_goes_on A g.met.E.Element.lawful s plan.boards plan.copies.now
           plan.edges.now laid c.args.board _ _ (Ok _) exact;
     }
 
-pub returns-then-is-over : goal.returns-then-is-over
-returns-then-is-over g c =
+pub returns-then-is_over : goal.returns-then-is_over
+returns-then-is_over g c =
     let A = g.E.Element.algebra in
     let plan = c.args.plan.now in
     let m = moment c.args.self.now.tally c.args.table.now.links c.args.copies.now
     (g.D.Medium.lanes c.args.medium.now) in
     let exact = over_is_refused A plan.boards plan.copies.now plan.edges.now c.args.board m
-    (sym c.is-over.ensures ∙ c.if-is-over.true) in
+    (sym c.is_over.ensures ∙ c.if-is_over.true) in
     record {
       exact = exact;
       alone = record { others_stay = λ k other. refl; by_frames_alone = λ none. refl };
@@ -55,18 +55,18 @@ returns-then-is-over g c =
           plan.edges.now laid c.args.board m m (Err _) exact;
     }
 
-pub returns-in-err-counts : goal.returns-in-err-counts
-returns-in-err-counts g c =
+pub returns-in_err-counts : goal.returns-in_err-counts
+returns-in_err-counts g c =
     let A = g.E.Element.algebra in
     let plan = c.args.plan.now in
     let lanes = g.D.Medium.lanes in
-    let refused = c.in-err-counts.ensures in
+    let refused = c.in_err-counts.ensures in
     let p = err_from_is_err_and c.from-residual.result c.from-residual.ensures.1 in
     let exact = untaken_is_refused A plan.boards plan.copies.now plan.edges.now c.args.board
-    c.args.self.now.tally c.args.table.now.links c.take-turn.new.table.links
-    c.args.copies.now c.take-turn.new.copies (lanes c.args.medium.now)
-    (lanes c.take-turn.new.medium) (sym c.is-over.ensures ∙ c.if-is-over.false)
-    c.in-err-counts.field-0.0 refused.exact in
+    c.args.self.now.tally c.args.table.now.links c.take_turn.new.table.links
+    c.args.copies.now c.take_turn.new.copies (lanes c.args.medium.now)
+    (lanes c.take_turn.new.medium) (sym c.is_over.ensures ∙ c.if-is_over.false)
+    c.in_err-counts.field-0.0 refused.exact in
     rw (p.1, p.2) record {
       exact = exact;
       alone = refused.alone;

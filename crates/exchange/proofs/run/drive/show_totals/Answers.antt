@@ -8,7 +8,7 @@ use Rattle.exchange.proofs.run.drive.show_totals.Goals as goal
 pub returns : goal.returns
 returns g c =
     let plan = c.args.plan.now in
-    let shown = c.in-ok-shown.ensures in
+    let shown = c.in_ok-shown.ensures in
     record {
       exact = shown;
       promise = λ s laid tally copies lanes ts book losses run same.

@@ -7,9 +7,9 @@ use Rattle.plan.proofs.view.PlanView.board_part.Goals as goal
 pub returns : goal.returns
 returns c =
     let v = c.args.self.now in
-    let r = c.part-on.result in
-    let from = c.part-on.ensures.from in
-    let count = c.part-on.ensures.count in
+    let r = c.part_on.result in
+    let from = c.part_on.ensures.from in
+    let count = c.part_on.ensures.count in
     record {
       from = from;
       count = count;

@@ -8,19 +8,19 @@ bounds : (v : PlanView) (x : ℕ) → x < 64
     → (get_or v.starts x 0 ≤ get_or v.starts (x + 1) 0) × (get_or v.starts (x + 1) 0 ≤ length v.edges.now)
 bounds v x = link_bounds v.boards v.copies.now v.edges.now v.sound v.starts v.placed x
 
-pub offset-bounds-edges-self : goal.offset-bounds-edges-self
-offset-bounds-edges-self c =
+pub offset_bounds-edges-self : goal.offset_bounds-edges-self
+offset_bounds-edges-self c =
     let v = c.args.self.now in
     omega (arith, bounds v c.args.link c.requires, few_edges v.boards v.copies.now v.edges.now v.sound)
 
-pub slice-bounds-result-count : goal.slice-bounds-result-count
-slice-bounds-result-count c = (bounds c.args.self.now c.args.link c.requires).0
+pub slice_bounds-result-count : goal.slice_bounds-result-count
+slice_bounds-result-count c = (bounds c.args.self.now c.args.link c.requires).0
 
-pub slice-bounds-result-start : goal.slice-bounds-result-start
-slice-bounds-result-start c = (bounds c.args.self.now c.args.link c.requires).0
+pub slice_bounds-result-start : goal.slice_bounds-result-start
+slice_bounds-result-start c = (bounds c.args.self.now c.args.link c.requires).0
 
-pub slice-bounds-result-end : goal.slice-bounds-result-end
-slice-bounds-result-end c = (bounds c.args.self.now c.args.link c.requires).1
+pub slice_bounds-result-end : goal.slice_bounds-result-end
+slice_bounds-result-end c = (bounds c.args.self.now c.args.link c.requires).1
 
 pub returns : goal.returns
 returns c =

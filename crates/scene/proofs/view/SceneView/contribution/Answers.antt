@@ -5,23 +5,23 @@ use Rattle.scene.specs.Layout.{corners_of, words_at, parts_place}
 use Rattle.scene.proofs.Reading.{absent, part_read, part_past}
 use Rattle.scene.proofs.view.SceneView.contribution.Goals as goal
 
-pub returns-in-err-at : goal.returns-in-err-at
-returns-in-err-at c =
+pub returns-in_err-at : goal.returns-in_err-at
+returns-in_err-at c =
     let b = c.args.self.now.bytes.now in
     c.from-residual.ensures
-    ∙ absent b c.args.c (λ x. slice_get x.parts c.args.k) c.in-err-at.ensures.place
+    ∙ absent b c.args.c (λ x. slice_get x.parts c.args.k) c.in_err-at.ensures.place
 
 pub returns-then-k-corners : goal.returns-then-k-corners
 returns-then-k-corners c =
     let b = c.args.self.now.bytes.now in
     let inside : c.args.k < corners_of b = omega arith in
     ap Some
-    (c.part-at.ensures
-    ∙ ap (λ k. words_at b (parts_place k c.in-ok-at.at + 12 * c.args.k)) c.corners-corners.ensures)
-    ∙ part_read b c.args.c c.in-ok-at.at c.in-ok-at.ensures.place c.args.k inside
+    (c.part_at.ensures
+    ∙ ap (λ k. words_at b (parts_place k c.in_ok-at.at + 12 * c.args.k)) c.corners-corners.ensures)
+    ∙ part_read b c.args.c c.in_ok-at.at c.in_ok-at.ensures.place c.args.k inside
 
 pub returns-else-k-corners : goal.returns-else-k-corners
 returns-else-k-corners c =
     let b = c.args.self.now.bytes.now in
     let past : corners_of b ≤ c.args.k = omega arith in
-    part_past b c.args.c c.in-ok-at.at c.in-ok-at.ensures.place c.args.k past
+    part_past b c.args.c c.in_ok-at.at c.in_ok-at.ensures.place c.args.k past
