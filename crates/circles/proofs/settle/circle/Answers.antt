@@ -15,7 +15,7 @@ pub returns-in_err-turn : goal.returns-in_err-turn
 returns-in_err-turn g c =
     let plan = c.args.plan.now in
     let lanes = g.D.Medium.lanes in
-    let p = err_from_is_err_and c.from-residual.result c.from-residual.ensures.1 in
+    let p = err_from_is_err_and c.from_residual.result c.from_residual.ensures.1 in
     rw (p.1, p.2) (next_board_refused g.E.Element.algebra g.met.E.Element.lawful plan.boards
     plan.copies.now plan.edges.now
     (moment c.args.turning.now.tally c.args.table.now.links c.args.copies.now

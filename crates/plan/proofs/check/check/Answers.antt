@@ -13,14 +13,14 @@ returns-in-Some c =
 pub returns-in-Some-bad_edge : goal.returns-in-Some-bad_edge
 returns-in-Some-bad_edge c =
     let (s, f) = edge_fault c.args.boards c.args.copies.now c.args.edges.now
-    (sym c.if-not-boards_fit.ensures) c.in-default.ensures c.in-Some-bad_edge.number
+    (sym c.if-not-boards_fit.ensures) c.in_default.ensures c.in-Some-bad_edge.number
     c.in-Some-bad_edge.ensures in
     record { accepts = sym s; refuses = sym f; low = tt }
 
 pub returns : goal.returns
 returns c =
     let (s, f) = no_fault c.args.boards c.args.copies.now c.args.edges.now
-    (sym c.if-not-boards_fit.ensures) c.in-default.ensures c.in-default-bad_edge.ensures in
+    (sym c.if-not-boards_fit.ensures) c.in_default.ensures c.in_default-bad_edge.ensures in
     record {
       accepts = sym s;
       refuses = sym f;

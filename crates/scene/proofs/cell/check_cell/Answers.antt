@@ -22,7 +22,7 @@ returns-in_err-check_corners c =
     let b = c.args.bytes.now in
     let at = c.args.at in
     let bad = c.in_err-check_corners in
-    let r = c.from-residual-in_err-check_corners in
+    let r = c.from_residual-in_err-check_corners in
     let rest = all_apart h b at ++ words_unused h b at in
     exit_is r.result bad.field-0.0 r.ensures.1
     ∙ stopped (on_vertices h b at) rest bad.field-0.0 bad.ensures
@@ -34,7 +34,7 @@ returns-in_err-check_apart c =
     let b = c.args.bytes.now in
     let at = c.args.at in
     let bad = c.in_err-check_apart in
-    let r = c.from-residual-in_err-check_apart in
+    let r = c.from_residual-in_err-check_apart in
     let rest = all_apart h b at ++ words_unused h b at in
     exit_is r.result bad.field-0.0 r.ensures.1
     ∙ stopped (all_apart h b at) (words_unused h b at) bad.field-0.0 bad.ensures

@@ -18,8 +18,8 @@ returns-in_err-check_corner c =
     let bad = c.in_err-check_corner in
     turn_exit (corner_rule c.args.head c.args.bytes.now c.args.at)
     c.loop-i.i c.args.head.corners _ c.loop-i.invariant
-    c.loop-i-test.true c.from-residual.result bad.field-0.0
-    c.from-residual.ensures.1 bad.ensures
+    c.loop-i-test.true c.from_residual.result bad.field-0.0
+    c.from_residual.ensures.1 bad.ensures
 
 pub returns : goal.returns
 returns c =

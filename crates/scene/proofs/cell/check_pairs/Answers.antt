@@ -18,8 +18,8 @@ returns-in_err-check_pair c =
     let bad = c.in_err-check_pair in
     turn_exit (pair_rule c.args.bytes.now c.args.at c.args.i)
     c.loop-j.j c.args.head.corners _ c.loop-j.invariant
-    c.loop-j-test.true c.from-residual.result bad.field-0.0
-    c.from-residual.ensures.1 bad.ensures
+    c.loop-j-test.true c.from_residual.result bad.field-0.0
+    c.from_residual.ensures.1 bad.ensures
 
 pub returns : goal.returns
 returns c =

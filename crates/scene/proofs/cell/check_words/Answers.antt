@@ -19,8 +19,8 @@ returns-in_err-check_word c =
     let bad = c.in_err-check_word in
     turn_exit (word_rule c.args.head c.args.bytes.now c.args.at)
     c.loop-w.w (3 * c.args.head.corners) _ c.loop-w.invariant
-    c.loop-w-test.true c.from-residual.result bad.field-0.0
-    c.from-residual.ensures.1 bad.ensures
+    c.loop-w-test.true c.from_residual.result bad.field-0.0
+    c.from_residual.ensures.1 bad.ensures
 
 pub returns : goal.returns
 returns c =

@@ -11,7 +11,7 @@ returns c =
     let b = c.args.bytes.now in
     let is = c.check_records.ensures in
     let exact : admits b ≡ is_ok c.check_records.result = verdict_ok (scene_rules b) ∙ sym (ap is_ok is) in
-    let small : (i : ℕ) → byte_at b i < 256 = λ i. omega (arith, c.type-inv.bytes i) in
+    let small : (i : ℕ) → byte_at b i < 256 = λ i. omega (arith, c.type_inv.bytes i) in
     record {
       answer = is;
       exact = exact;

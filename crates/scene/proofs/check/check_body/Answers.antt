@@ -11,7 +11,7 @@ returns-in_err-check_cells c =
     let h = c.args.head in
     let b = c.args.bytes.now in
     let bad = c.in_err-check_cells in
-    let r = c.from-residual in
+    let r = c.from_residual in
     let last = in_record (h.cells + 1) (end_rules b (cell_place h.corners h.cells)) in
     exit_is r.result bad.field-0.0 r.ensures.1
     ∙ stopped (flat_map (cell_record h b) (range_with_len 0 h.cells)) last bad.field-0.0 bad.ensures
@@ -21,7 +21,7 @@ returns-in_err-in_record c =
     let h = c.args.head in
     let b = c.args.bytes.now in
     let bad = c.in_err-in_record in
-    let r = c.from-residual-in_err-in_record in
+    let r = c.from_residual-in_err-in_record in
     let count = c.from-cells.ensures in
     let rules = end_rules b (cell_place h.corners h.cells) in
     let is =

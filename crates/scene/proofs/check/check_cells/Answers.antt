@@ -28,8 +28,8 @@ returns-in_err-in_record c =
     let rules = cell_rules h b (cell_place h.corners n) in
     let more : n < h.cells = omega arith in
     let is = c.check_cell.ensures ∙ ap (λ at. verdict (cell_rules h b at)) c.cell_place.ensures.place in
-    turn_exit (cell_record h b) n h.cells _ c.loop-n.invariant more c.from-residual.result _
-    c.from-residual.ensures.1
+    turn_exit (cell_record h b) n h.cells _ c.loop-n.invariant more c.from_residual.result _
+    c.from_residual.ensures.1
     (record_stopped (n + 1) rules c.check_cell.result is bad.field-0.0 bad.ensures)
 
 pub returns : goal.returns

@@ -10,7 +10,7 @@ returns-in_err-in_record c =
     let bad = c.in_err-in_record in
     let rules = header_rules b in
     let found = c.check_header in
-    exit_is c.from-residual.result _ c.from-residual.ensures.1
+    exit_is c.from_residual.result _ c.from_residual.ensures.1
     ∙ stopped (in_record 0 rules) (body_rules (head_of b) b) _
     (record_stopped 0 rules found.result found.ensures bad.field-0.0 bad.ensures)
 

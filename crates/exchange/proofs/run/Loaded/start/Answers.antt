@@ -6,7 +6,7 @@ use Rattle.exchange.proofs.run.Loaded.start.Goals as goal
 pub returns : goal.returns
 returns g c =
     let lanes = g.D.Medium.lanes c.args.medium.now in
-    let idle = c.in-default.ensures in
+    let idle = c.in_default.ensures in
     record {
       exact = (idle, refl, c.reset.ensures);
       promise = λ s laid own. run_starts g.E.Element.algebra g.met.E.Element.lawful s _ laid.sound refl

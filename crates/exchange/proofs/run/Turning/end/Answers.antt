@@ -9,7 +9,7 @@ use Rattle.exchange.proofs.run.Turning.end.Goals as goal
 
 pub returns : goal.returns
 returns g c =
-    let none = c.in-default.ensures in
+    let none = c.in_default.ensures in
     record {
       exact = (none, refl, refl);
       promise = λ s laid copies lanes ts book losses run.

@@ -61,7 +61,7 @@ returns-in_err-counts g c =
     let plan = c.args.plan.now in
     let lanes = g.D.Medium.lanes in
     let refused = c.in_err-counts.ensures in
-    let p = err_from_is_err_and c.from-residual.result c.from-residual.ensures.1 in
+    let p = err_from_is_err_and c.from_residual.result c.from_residual.ensures.1 in
     let exact = untaken_is_refused A plan.boards plan.copies.now plan.edges.now c.args.board
     c.args.self.now.tally c.args.table.now.links c.take_turn.new.table.links
     c.args.copies.now c.take_turn.new.copies (lanes c.args.medium.now)

@@ -6,7 +6,7 @@ use Rattle.scene.proofs.view.SceneView.cell_board.Goals as goal
 pub returns-in_err-at : goal.returns-in_err-at
 returns-in_err-at c =
     let b = c.args.self.now.bytes.now in
-    c.from-residual.ensures ∙ absent b c.args.c (λ x. Some x.board) c.in_err-at.ensures.place
+    c.from_residual.ensures ∙ absent b c.args.c (λ x. Some x.board) c.in_err-at.ensures.place
 
 pub returns : goal.returns
 returns c =

@@ -8,7 +8,7 @@ use Rattle.scene.proofs.view.SceneView.contribution.Goals as goal
 pub returns-in_err-at : goal.returns-in_err-at
 returns-in_err-at c =
     let b = c.args.self.now.bytes.now in
-    c.from-residual.ensures
+    c.from_residual.ensures
     ∙ absent b c.args.c (λ x. slice_get x.parts c.args.k) c.in_err-at.ensures.place
 
 pub returns-then-k-corners : goal.returns-then-k-corners
