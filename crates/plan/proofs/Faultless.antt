@@ -6,7 +6,7 @@ use Rattle.plan.specs.declared.records.Edge.{Edge}
 use Rattle.plan.specs.declared.fault.PlanFault.{PlanFault}
 use Rattle.plan.specs.declared.fault.PlanFault.TheVariants.{Boards, Copy, Edge as EdgeAt}
 use Rattle.plan.specs.Sound.{copy_before, edge_before, copy_fits, edge_fits}
-use Rattle.plan.specs.Sound.{boards_fit, sound_copies, sound_edges, sound_plan}
+use Rattle.plan.specs.Sound.{boards_fit, sound_copies, sound_plan}
 use Rattle.plan.specs.Faults.{bad_copy, bad_edge, or_else, plan_fault}
 use Rattle.plan.proofs.Breaks.{sound_from_none, unsound_from_some}
 

@@ -1,13 +1,13 @@
 -- What the rules of a plan give.
-use Rattle.std.proofs.Common.{◌≡◌, ℕ, suc, ◌+◌, ◌-◌, ◌*◌, ◌<◌, ◌≤◌, Bool, true, false, not, ◌&&◌, ◌||◌, eqb, ltb, leb, ◌⊎◌, List, [], ◌∷◌, length, get_or, take, drop, filter, sym, refl, ap, ◌∙◌, inl, inr, arith}
+use Rattle.std.proofs.Common.{◌≡◌, ℕ, ◌+◌, ◌-◌, ◌*◌, ◌<◌, ◌≤◌, Bool, true, not, ◌&&◌, eqb, ltb, leb, List, [], ◌∷◌, length, get_or, take, drop, filter, sym, refl, ap, ◌∙◌, inl, inr, arith}
 use Rattle.std.specs.List.{AllByRecursion as All}
-use Rattle.std.proofs.ByRecursion.{All-weaker, All-get_or, all_kept_by, kept_by_passes}
+use Rattle.std.proofs.ByRecursion.{All-weaker, All-get_or, all_kept_by}
 use Rattle.std.proofs.lemmas.Bool.{and_parts, not-true, cases_Bool, cases_order, ltb-true, leb-true, eqb-true, eqb-false}
 use Rattle.std.proofs.lemmas.Bool.Decides.{nat_tests}
 use Rattle.plan.specs.declared.records.CopyRecord.{CopyRecord}
 use Rattle.plan.specs.declared.records.Edge.{Edge}
 use Rattle.plan.specs.Links.{no_copy, no_edge, joins, edges_between}
-use Rattle.plan.specs.Sound.{each, rising, copy_before, edge_before, copy_fits, edge_fits, is_copy}
+use Rattle.plan.specs.Sound.{each, copy_before, edge_before, copy_fits, edge_fits, is_copy}
 use Rattle.plan.specs.Sound.{boards_fit, sound_copies, sound_edges, sound_plan}
 use Rattle.plan.specs.Starts.{link_of, edges_on, edges_before, Starts, copies_on, copies_before}
 use Rattle.plan.specs.Sums.{sum_below}

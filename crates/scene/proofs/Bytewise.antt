@@ -1,9 +1,8 @@
 -- Bytes are admitted exactly if they are the bytes of a scene.
-use Rattle.std.proofs.Common.{◌≡◌, ℕ, ◌<◌, Bool, true, List, Decides, sym, ap, ◌∙◌, subst}
-use Rattle.scene.specs.Cells.{Scene}
+use Rattle.std.proofs.Common.{◌≡◌, ℕ, ◌<◌, Bool, List, Decides, sym, ap, ◌∙◌}
 use Rattle.scene.specs.Layout.{byte_at, scene_of}
 use Rattle.scene.specs.Rules.{admits}
-use Rattle.scene.specs.Written.{Writes, Written, ReadsBack}
+use Rattle.scene.specs.Written.{Written, ReadsBack}
 use Rattle.scene.proofs.Readback.{read_proper, read_written}
 use Rattle.scene.proofs.Scenewise.{written_admitted, written_read}
 

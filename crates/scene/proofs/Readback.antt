@@ -1,18 +1,18 @@
 -- Bytes that are admitted are those of the scene that is read from them.
-use Rattle.std.proofs.Common.{◌≡◌, ℕ, ◌+◌, ◌*◌, ◌%◌, ◌<◌, ◌≤◌, true, List, [], ◌∷◌, ◌++◌, map, length, get_or, sym, refl, ap, ◌∙◌, subst, mul_comm, arith}
-use Rattle.std.specs.List.{range_with_len, flat_map, AllByRecursion as All}
+use Rattle.std.proofs.Common.{◌≡◌, ℕ, ◌+◌, ◌*◌, ◌%◌, ◌<◌, true, List, [], ◌∷◌, ◌++◌, length, sym, refl, ap, ◌∙◌, subst, mul_comm, arith}
+use Rattle.std.specs.List.{flat_map, AllByRecursion as All}
 use Rattle.std.proofs.lemmas.List.{length-append}
 use Rattle.std.proofs.lemmas.Bool.{and_parts, leb-true, eqb-true}
 use Rattle.element.specs.Algebra.{Fits, kept}
 use Rattle.element.specs.Kinds.{used_by}
-use Rattle.scene.specs.Cells.{Cell, Scene}
+use Rattle.scene.specs.Cells.{Cell}
 use Rattle.scene.specs.Layout.{byte_at, number_at, word_at, words_at, cell_at, cell_place, cell_size, corner_place}
 use Rattle.scene.specs.Layout.{parts_place, scene_of, corners_of}
 use Rattle.scene.specs.Read.{no_cell}
-use Rattle.scene.specs.Rules.{head_of, admits}
+use Rattle.scene.specs.Rules.{admits}
 use Rattle.scene.specs.Written.{two_bytes, cell_bytes, header_bytes, written, ProperCell, Proper}
 use Rattle.scene.proofs.Counted.{get_or_counted}
-use Rattle.scene.proofs.Soundness.{CellKept, all_made, made_length, header_kept, end_kept, cell_fine, sound}
+use Rattle.scene.proofs.Soundness.{all_made, made_length, header_kept, end_kept, cell_fine, sound}
 use Rattle.scene.proofs.Standing.{Stands, moved, glue, same_bytes, length_each, glue_each, number_stands, word_small}
 use Rattle.scene.proofs.Cellwise.{length_cell, cell_stands}
 use Rattle.scene.proofs.Unused.{kept_same}

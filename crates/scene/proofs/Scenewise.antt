@@ -1,14 +1,14 @@
 -- A scene's bytes are admitted and read as the scene.
 use Rattle.std.proofs.Common.{◌≡◌, ℕ, ◌+◌, ◌*◌, ◌/◌, ◌%◌, ◌<◌, ◌≤◌, true, List, [], ◌∷◌, ◌++◌, map, length, get_or, sym, refl, ap, ◌∙◌, subst, mul_comm, arith}
 use Rattle.std.specs.List.{range_with_len, flat_map, AllByRecursion as All}
-use Rattle.std.proofs.lemmas.List.FromFn.{fill_by_all, length-map-range_with_len}
+use Rattle.std.proofs.lemmas.List.FromFn.{fill_by_all}
 use Rattle.std.proofs.ByRecursion.{All-get_or, All-weaker}
 use Rattle.std.proofs.lemmas.List.{length-append}
 use Rattle.std.proofs.lemmas.Bool.{and_from, le-leb, eq-eqb}
 use Rattle.element.specs.Kinds.{used_by}
-use Rattle.scene.specs.Cells.{Cell, Scene, Sound}
-use Rattle.scene.specs.Layout.{byte_at, number_at, word_at, words_at, cell_at, cell_place, cell_size, corner_place}
-use Rattle.scene.specs.Layout.{parts_place, scene_with, scene_of, corners_of}
+use Rattle.scene.specs.Cells.{Cell, Scene}
+use Rattle.scene.specs.Layout.{number_at, word_at, words_at, cell_at, cell_place, cell_size, corner_place}
+use Rattle.scene.specs.Layout.{parts_place, scene_of, corners_of}
 use Rattle.scene.specs.Read.{no_cell, no_words}
 use Rattle.scene.specs.Rules.{head_of, header_rules, cell_rules, cell_record, end_rules, in_record, body_rules}
 use Rattle.scene.specs.Rules.{all_hold, admits}

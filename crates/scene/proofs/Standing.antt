@@ -1,8 +1,7 @@
 -- Which bytes stand where: lists of bytes put together and taken apart by their places.
-use Rattle.std.proofs.Common.{◌≡◌, ℕ, zero, suc, ◌+◌, ◌-◌, ◌*◌, ◌/◌, ◌%◌, ◌^◌, ◌<◌, ◌≤◌, List, [], ◌∷◌, ◌++◌, length, get_or, drop, sym, refl, ap, ◌∙◌, subst, inl, inr, mul-zero, mul-suc, arith}
+use Rattle.std.proofs.Common.{◌≡◌, ℕ, zero, suc, ◌+◌, ◌-◌, ◌*◌, ◌/◌, ◌%◌, ◌^◌, ◌<◌, ◌≤◌, List, [], ◌∷◌, ◌++◌, length, get_or, drop, sym, refl, ap, ◌∙◌, subst, mul-zero, mul-suc, arith}
 use Rattle.std.specs.List.{flat_map, AllByRecursion as All}
 use Rattle.std.proofs.lemmas.List.{drop_all, drop_more, length-append, length-drop}
-use Rattle.std.proofs.lemmas.Bool.{cases_lt}
 use Rattle.element.specs.declared.words.Words.{Words}
 use Rattle.scene.specs.Layout.{byte_at, number_at, word_at, words_at}
 use Rattle.scene.specs.Written.{two_bytes, four_bytes, words_bytes}

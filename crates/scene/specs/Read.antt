@@ -1,5 +1,5 @@
 -- What a scene's readers answer: absent where there is no such cell or corner.
-use Rattle.std.specs.Prelude.{ℕ, List, [], Some, None, Option}
+use Rattle.std.specs.Prelude.{ℕ, [], Some, None, Option}
 use Rattle.std.specs.List.{slice_get}
 use Rattle.element.specs.declared.words.Words.{Words}
 use Rattle.scene.specs.Cells.{Cell, Scene}

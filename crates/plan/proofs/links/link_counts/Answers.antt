@@ -1,5 +1,5 @@
 -- The count of each link goes up by its own edges alone, and never overflows.
-use Rattle.std.proofs.Common.{◌≡◌, ◌<◌, length, take, sym, refl, ap, ◌∙◌, arith}
+use Rattle.std.proofs.Common.{◌<◌, length, refl, ap, ◌∙◌, arith}
 use Rattle.std.proofs.ByRecursion.{All-get_or}
 use Rattle.std.proofs.lemmas.List.{get_or-replicate, length-set, take_all}
 use Rattle.plan.specs.Links.{no_edge}

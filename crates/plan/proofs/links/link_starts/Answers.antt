@@ -1,5 +1,5 @@
 -- A link's start is the sum of the counts before it.
-use Rattle.std.proofs.Common.{◌≡◌, ℕ, ◌+◌, ◌<◌, ltb, length, get_or, set, sym, refl, ap, ◌∙◌, subst, arith}
+use Rattle.std.proofs.Common.{◌≡◌, ℕ, ◌+◌, ◌<◌, ltb, length, get_or, set, sym, ◌∙◌, subst, arith}
 use Rattle.std.proofs.lemmas.List.{length-set}
 use Rattle.plan.specs.Starts.{link_of, edges_before}
 use Rattle.plan.proofs.Counting.{before_first, before_more, kept_le, Started, started_more}

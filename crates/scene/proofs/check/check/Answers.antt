@@ -1,6 +1,6 @@
 -- Bytes are admitted exactly if no rule is found broken, and that is exactly if they are a scene's bytes.
 use Rattle.std.proofs.Common.{◌≡◌, ℕ, ◌<◌, is_ok, sym, ap, ◌∙◌, arith}
-use Rattle.scene.specs.Layout.{byte_at, scene_of}
+use Rattle.scene.specs.Layout.{byte_at}
 use Rattle.scene.specs.Rules.{scene_rules, admits}
 use Rattle.scene.proofs.Verdicts.{verdict_ok}
 use Rattle.scene.proofs.Bytewise.{accepted, read_back}

@@ -1,5 +1,5 @@
 -- The cells' rules, then the end's.
-use Rattle.std.proofs.Common.{◌≡◌, ◌+◌, sym, ap, ◌∙◌}
+use Rattle.std.proofs.Common.{◌+◌, ap, ◌∙◌}
 use Rattle.std.specs.List.{range_with_len, flat_map}
 use Rattle.scene.specs.Layout.{cell_place}
 use Rattle.scene.specs.Rules.{verdict, cell_record, end_rules, in_record, broken}

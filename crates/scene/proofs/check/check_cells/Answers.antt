@@ -1,5 +1,5 @@
 -- Each turn tries the rules of one cell.
-use Rattle.std.proofs.Common.{◌≡◌, ◌+◌, ◌<◌, ◌≤◌, ap, ◌∙◌, arith}
+use Rattle.std.proofs.Common.{◌+◌, ◌<◌, ◌≤◌, ap, ◌∙◌, arith}
 use Rattle.scene.specs.Layout.{cell_place}
 use Rattle.scene.specs.Rules.{verdict, cell_rules, cell_record}
 use Rattle.scene.proofs.Verdicts.{from_start, turn_next, turn_exit, turn_end, record_passed, record_stopped}

@@ -1,5 +1,5 @@
 -- The header's rules, then the others.
-use Rattle.std.proofs.Common.{◌≡◌, sym, ap, ◌∙◌}
+use Rattle.std.proofs.Common.{ap, ◌∙◌}
 use Rattle.scene.specs.Rules.{verdict, head_of, header_rules, in_record, body_rules}
 use Rattle.scene.proofs.Verdicts.{past, stopped, exit_is, record_passed, record_stopped}
 use Rattle.scene.proofs.check.check_records.Goals as goal

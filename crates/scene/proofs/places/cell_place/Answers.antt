@@ -1,6 +1,5 @@
 -- A place of a cell is far below what a number holds.
-use Rattle.std.proofs.Common.{◌≡◌, ◌+◌, ◌*◌, ◌^◌, ◌<◌, ◌≤◌, refl, ap, mul-le-mul, arith}
-use Rattle.scene.specs.Layout.{cell_size, cell_place}
+use Rattle.std.proofs.Common.{◌+◌, ◌*◌, ◌≤◌, ap, mul-le-mul, arith}
 use Rattle.scene.proofs.places.cell_place.Goals as goal
 
 pub returns : goal.returns

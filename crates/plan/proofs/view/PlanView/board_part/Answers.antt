@@ -1,5 +1,5 @@
 -- A board's copies stand together.
-use Rattle.std.proofs.Common.{◌≤◌, length, take, drop, ap, ◌∙◌, arith}
+use Rattle.std.proofs.Common.{length, take, drop, ap, ◌∙◌, arith}
 use Rattle.plan.specs.Starts.{copies_on}
 use Rattle.plan.proofs.Plans.{board_part, board_part_within}
 use Rattle.plan.proofs.view.PlanView.board_part.Goals as goal

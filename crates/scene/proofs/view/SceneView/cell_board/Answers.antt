@@ -1,5 +1,5 @@
 -- The board's byte stands two past where the cell begins.
-use Rattle.std.proofs.Common.{Some, sym, ap, ◌∙◌}
+use Rattle.std.proofs.Common.{Some, ap, ◌∙◌}
 use Rattle.scene.proofs.Reading.{absent, board_read}
 use Rattle.scene.proofs.view.SceneView.cell_board.Goals as goal
 

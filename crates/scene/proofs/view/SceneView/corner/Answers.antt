@@ -1,5 +1,5 @@
 -- The corner's two bytes stand at their place in the cell.
-use Rattle.std.proofs.Common.{◌+◌, ◌*◌, ◌<◌, ◌≤◌, Some, ap, ◌∙◌, arith}
+use Rattle.std.proofs.Common.{◌<◌, ◌≤◌, Some, ap, ◌∙◌, arith}
 use Rattle.std.specs.List.{slice_get}
 use Rattle.scene.specs.Layout.{corners_of}
 use Rattle.scene.proofs.Reading.{absent, corner_read, corner_past}
