@@ -40,12 +40,12 @@ loop-k-preserved g c =
       all = v.all;
       lanes_so = s.lanes ∙ ap (λ l. shortened l q p) v.lanes_so ∙ without_one_more was q p k;
       held_so = steps_next g.E.Element.algebra c.args.ups.now c.args.downs.now p q
-          (held c.loop-k.table.links c.loop-k.copies c.loop-k.branch.accepted)
+          (held c.loop-k.table.links c.loop-k.copies c.loop-k.came.accepted)
           (held c.take_next-came.new.table.links c.take_next-came.new.copies
           c.take_next-came.result.accepted)
           (was q p) _ k here s.held
           ∙ v.held_so;
-      item_so = some_item_next c.loop-k.branch.item c.take_next-came.result.item (was q p) _ k here s.item
+      item_so = some_item_next c.loop-k.came.item c.take_next-came.result.item (was q p) _ k here s.item
           ∙ v.item_so;
       few = (omega arith, v.few.1);
     }
@@ -61,10 +61,10 @@ returns g c =
     let none = drop_all k (was q p) done in
     record {
       held = ap (λ r. frames_step g.E.Element.algebra c.args.ups.now c.args.downs.now p q r
-          (held c.loop-k.table.links c.loop-k.copies c.loop-k.branch.accepted)) (sym none)
+          (held c.loop-k.table.links c.loop-k.copies c.loop-k.came.accepted)) (sym none)
           ∙ v.held_so;
       lanes = v.lanes_so ∙ without_all was q p k done;
       frames = v.all;
-      item = sym (or_none c.loop-k.branch.item) ∙ ap (λ r. c.loop-k.branch.item || some_item r) (sym none) ∙ v.item_so;
+      item = sym (or_none c.loop-k.came.item) ∙ ap (λ r. c.loop-k.came.item || some_item r) (sym none) ∙ v.item_so;
       few = (omega arith, v.few.1);
     }
