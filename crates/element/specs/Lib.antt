@@ -3,7 +3,6 @@ pub mod Algebra
 pub mod Join
 pub mod Models
 pub mod Numbers
-pub mod Lists
 pub mod Unions
 pub mod Bitwise
 pub mod Forces

@@ -1,8 +1,8 @@
 -- What reports, an end and what is shown say of a run: they follow the book, and shown copies are totals.
-use Rattle.std.proofs.Common.{◌≡◌, ℕ, zero, suc, ◌+◌, ◌<◌, ◌≤◌, Bool, true, false, not, List, map, length, get_or, take, drop, sym, refl, ap, ◌∙◌, subst, ap₂, inl, inr, arith}
+use Rattle.std.proofs.Common.{◌≡◌, ℕ, zero, suc, ◌+◌, ◌<◌, ◌≤◌, Bool, true, false, cond, not, nat_lt, Ok, Err, List, map, length, get_or, take, drop, sym, refl, ap, ◌∙◌, subst, ap₂, inl, inr, arith}
 use Rattle.std.proofs.ByRecursion.{All-get_or}
 use Rattle.std.proofs.lemmas.List.{ext_get_or, length-take, length-drop, length-map, get_or-take, get_or-drop, get_or-map, take_all}
-use Rattle.std.proofs.lemmas.Bool.{cases_Bool, both_ways}
+use Rattle.std.proofs.lemmas.Bool.{cases_Bool, both_ways, cases_lt, lt-ltb, le-ltb}
 use Rattle.element.specs.Algebra.{Algebra, Lawful}
 use Rattle.scene.specs.Cells.{Scene}
 use Rattle.scene.specs.Sums.{undivided}
@@ -17,6 +17,7 @@ use Rattle.forest.proofs.Lowest.{lowest_first, lowest_same}
 use Rattle.protocol.specs.Books.{Book, HasAll, is_settled, report_by, lowest_unsettled}
 use Rattle.protocol.specs.Promise.{Promise}
 use Rattle.protocol.specs.Runs.{Moment, Run, fresh, turn, other, laid, accepted_in}
+use Rattle.protocol.specs.declared.fault.RunFault.{RunFault}
 use Rattle.protocol.specs.declared.tally.Report.{Report}
 use Rattle.protocol.specs.declared.tally.Report.TheVariants.{Settled, Awaits}
 use Rattle.protocol.proofs.Theorem.{promise_holds}
@@ -36,6 +37,14 @@ all_reported P count all p l = elim (cases_Bool (is_settled (report_by P count p
     lowest_first (λ r. not (is_settled (report_by P count r))) P.boards p l
         (ap not e),
   ))
+]
+
+-- a report that is answered was asked of a board that there is
+pub reported : (n p : ℕ) (x r : Report) (f : RunFault)
+    → Ok r ≡ cond (nat_lt p n) (Ok x) (Err f) → (p < n) × (r ≡ x)
+reported n p x r f e = elim (cases_lt p n) [
+  | inl l ↦ (l, let same = rw (lt-ltb p n l) at e in cc)
+  | inr m ↦ let other = rw (le-ltb p n (omega arith)) at e in absurd (cc)
 ]
 
 -- a part of one list is the image of the same part of another, if it is so place by place

@@ -1,12 +1,10 @@
 -- How calls carry a run, and its promise, from one moment to the next.
 use Rattle.std.specs.Prelude.{◌≡◌, ℕ, ◌+◌, ◌<◌, ◌≤◌, ◌⊎◌, List, [], ◌∷◌, ◌++◌, map, length, get_or, take, drop, replicate, Some, None, Ok, Err, Result, slice_index_or}
-use Rattle.std.specs.Borrow.{Bor}
 use Rattle.element.specs.Algebra.{Algebra}
 use Rattle.medium.specs.Lanes.{Lanes}
 use Rattle.scene.specs.Cells.{Scene, Sound}
 use Rattle.scene.specs.Sums.{own_sum, undivided}
 use Rattle.plan.specs.Links.{no_copy}
-use Rattle.plan.specs.Starts.{copies_on}
 use Rattle.plan.specs.declared.records.CopyRecord.{CopyRecord}
 use Rattle.plan.specs.declared.records.Edge.{Edge}
 use Rattle.forest.specs.Forest.{laid_copies, laid_edges}
@@ -78,13 +76,6 @@ EndsByTheBook A s (Ok _) book copies =
     × (take (length (laid_copies s)) copies ≡ totals_of A s (laid_copies s))
 EndsByTheBook A s (Err e) book copies =
     (lowest_unsettled (laid A s) book < s.boards) × (e.1 ≡ Early (lowest_unsettled (laid A s) book))
-
--- what is shown of board p, where the run holds these copies, are the undivided totals
-abbrev pub ShowsTotals : {M : Type 0} → Algebra M → Scene → List CopyRecord → ℕ → List M
-    → Result (Bor (List M)) RunFault → Book → List M → Type 0
-ShowsTotals A s records p memory (Ok shown) book copies =
-    copies ≡ memory → shown.now ≡ totals_of A s (copies_on records p)
-ShowsTotals A s records p memory (Err f) book copies = Unit {0}
 
 -- a run starts if no frame waits, with all counts zero; else the links stay
 abbrev pub StartAnswers : Lanes → List Link → List Link → Result Turning RunFault → Type 0

@@ -3,6 +3,7 @@ ghost use Rattle.std.specs.Prelude.{◌*◌, ◌≤◌};
 
 use protocol::tally::Tally;
 
+pub mod book;
 pub mod drive;
 mod end;
 pub mod load;

@@ -1,10 +1,10 @@
 -- Lists over the numbers below n, gathered number by number.
-use Rattle.std.proofs.Common.{◌≡◌, ℕ, zero, suc, ◌+◌, ◌<◌, Bool, true, false, cond, ◌&&◌, List, [], ◌∷◌, ◌++◌, map, length, get_or, filter, sym, refl, ap, ◌∙◌, zero-add, add-one, arith}
+use Rattle.std.proofs.Common.{◌≡◌, ℕ, zero, suc, ◌+◌, ◌<◌, Bool, true, false, cond, List, [], ◌∷◌, ◌++◌, map, length, filter, sym, refl, ap, ◌∙◌, zero-add, add-one, arith}
 use mir.Val.{bool_byte}
 use Rattle.std.specs.List.{range_with_len, flat_map}
 use Rattle.std.proofs.lemmas.List.FromFn.{map-range_with_len_more}
 use Rattle.std.proofs.lemmas.List.Elements.{filter-append}
-use Rattle.std.proofs.lemmas.List.{map-id, map-append, append-nil, append_assoc, flat_map_more, length-map}
+use Rattle.std.proofs.lemmas.List.{map-id, map-append, flat_map_more, length-map}
 use Rattle.laying.specs.Rows.{many, gathered, only}
 use Rattle.laying.proofs.Gather.{length_only}
 
@@ -28,36 +28,6 @@ gathered_same f g zero h = refl
 gathered_same f g (suc n) h =
     ap (λ l. l ++ f n) (gathered_same f g n (λ k l. h k (omega arith)))
     ∙ ap (λ l. gathered g n ++ l) (h n (omega arith))
-
-gathered_front : {X : Type 0} (f : ℕ → List X) (n : ℕ) → gathered f (suc n) ≡ f 0 ++ gathered (λ k. f (suc k)) n
-gathered_front f zero = sym (append-nil (f 0))
-gathered_front f (suc n) =
-    ap (λ l. l ++ f (suc n)) (gathered_front f n) ∙ append_assoc (f 0) (gathered (λ k. f (suc k)) n) (f (suc n))
-
-module _ {X Y : Type 0} (f : X → List Y) where
-  joined_append : (xs ys : List X) → flat_map f (xs ++ ys) ≡ flat_map f xs ++ flat_map f ys
-  joined_append [] ys = refl
-  joined_append (x ∷ xs) ys =
-      ap (λ l. f x ++ l) (joined_append xs ys) ∙ sym (append_assoc (f x) (flat_map f xs) (flat_map f ys))
-
-  -- the lists of all that was gathered
-  pub joined_all : (g : ℕ → List X) (n : ℕ) → flat_map f (gathered g n) ≡ gathered (λ k. flat_map f (g k)) n
-  joined_all g zero = refl
-  joined_all g (suc n) =
-      joined_append (gathered g n) (g n) ∙ ap (λ l. l ++ flat_map f (g n)) (joined_all g n)
-
-  -- the lists of all elements, place by place
-  pub joined_places : (xs : List X) (d : X) → gathered (λ i. f (get_or xs i d)) (length xs) ≡ flat_map f xs
-  joined_places [] d = refl
-  joined_places (x ∷ xs) d =
-      gathered_front (λ i. f (get_or (x ∷ xs) i d)) (length xs) ∙ ap (λ l. f x ++ l) (joined_places xs d)
-
-  -- what one test lets through, and then the other
-  pub joined_only : (b c : Bool) (x : X) (y : Y) → f x ≡ only c y → flat_map f (only b x) ≡ only (c && b) y
-  joined_only true true x y e = append-nil (f x) ∙ e
-  joined_only true false x y e = append-nil (f x) ∙ e
-  joined_only false true x y e = refl
-  joined_only false false x y e = refl
 
 map_only : {X : Type 0} (f : ℕ → X) (v : ℕ) (b : Bool) → map f (cond b (v ∷ []) []) ≡ only b (f v)
 map_only f v true = refl

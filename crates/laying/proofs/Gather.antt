@@ -1,14 +1,9 @@
 -- Counting and gathering number by number, and lists written one after another.
-use Rattle.std.proofs.Common.{◌≡◌, ℕ, zero, suc, ◌+◌, ◌<◌, ◌≤◌, Bool, true, false, ◌||◌, eqb, ltb, List, [], ◌∷◌, ◌++◌, length, take, drop, set, sym, refl, ap, ◌∙◌, inl, inr, add-zero, zero-add, add-one, arith}
+use Rattle.std.proofs.Common.{◌≡◌, ℕ, zero, suc, ◌+◌, ◌<◌, ◌≤◌, Bool, true, false, ◌||◌, List, [], ◌∷◌, ◌++◌, length, take, drop, set, sym, refl, ap, ◌∙◌, inl, inr, add-zero, zero-add, add-one, arith}
 use mir.Val.{bool_byte}
-use Rattle.std.specs.List.{AllByRecursion as All}
-use Rattle.std.proofs.ByRecursion.{All-append}
-use Rattle.std.proofs.lemmas.Bool.{cases_eq, le-ltb}
-use Rattle.std.proofs.lemmas.Bool.Decides.{nat_tests}
+use Rattle.std.proofs.lemmas.Bool.{cases_eq}
 use Rattle.std.proofs.lemmas.List.{append_assoc, length-append, take-append-drop, take_at, drop_at, drop-drop, length-take-le, set_split}
-use Rattle.element.specs.Lists.{placed}
-use Rattle.plan.specs.Sums.{sum_below}
-use Rattle.laying.specs.Rows.{some, many, gathered, only}
+use Rattle.laying.specs.Rows.{some, many, gathered, only, placed}
 
 pub gathered_more : {X : Type 0} (f : ℕ → List X) (n : ℕ) → gathered f (n + 1) ≡ gathered f n ++ f n
 gathered_more f n = ap (gathered f) (add-one n)
@@ -26,17 +21,6 @@ byte_le false = omega arith
 pub many_le : (t : ℕ → Bool) (n : ℕ) → many t n ≤ n
 many_le t zero = omega arith
 many_le t (suc n) = omega (arith, many_le t n, byte_le (t n))
-
-pub sum_more : (f : ℕ → ℕ) (n : ℕ) → sum_below (n + 1) f ≡ sum_below n f + f n
-sum_more f n = ap (λ k. sum_below k f) (add-one n)
-
--- one number equals m, if it is below n
-pub many_eqb : (m n : ℕ) → many (eqb m) n ≡ bool_byte (ltb m n)
-many_eqb m zero = ap bool_byte (sym (le-ltb m 0 (omega arith)))
-many_eqb m (suc n) = ap (λ k. k + bool_byte (eqb m n)) (many_eqb m n) ∙ last
-  where
-    last : bool_byte (ltb m n) + bool_byte (eqb m n) ≡ bool_byte (ltb m (suc n))
-    last = grind (arith, nat_tests)
 
 length_one : {X : Type 0} (b : Bool) (x : X) → length (only b x) ≡ bool_byte b
 length_one true x = refl
@@ -75,43 +59,6 @@ room f i (suc n) h =
           let below : i < n = omega arith in
           omega (arith, room f i n below, length-append (gathered f n) (f n))
     ]
-
-module _ {X : Type 0} (f : ℕ → ℕ → List X) where
-  rows_none : (b : ℕ) → length (gathered (λ q. gathered (f q) 0) b) ≡ 0
-  rows_none zero = refl
-  rows_none (suc b) =
-      omega (arith, length-append (gathered (λ q. gathered (f q) 0) b) (gathered (f b) 0), rows_none b)
-
-  -- each row goes on by one list
-  rows_more : (n b : ℕ)
-      → length (gathered (λ q. gathered (f q) (suc n)) b)
-      ≡ length (gathered (λ q. gathered (f q) n) b) + length (gathered (λ q. f q n) b)
-  rows_more n zero = refl
-  rows_more n (suc b) =
-      omega (
-        arith,
-        rows_more n b,
-        length-append (gathered (λ q. gathered (f q) (suc n)) b) (gathered (f b) (suc n)),
-        length-append (gathered (f b) n) (f b n),
-        length-append (gathered (λ q. gathered (f q) n) b) (gathered (f b) n),
-        length-append (gathered (λ q. f q n) b) (f b n),
-      )
-
-  -- rows that have at most one element at each number, all rows together
-  pub rows_few : (b n : ℕ) → ((v : ℕ) → length (gathered (λ q. f q v) b) ≤ 1)
-      → length (gathered (λ q. gathered (f q) n) b) ≤ n
-  rows_few b zero h = omega (arith, rows_none b)
-  rows_few b (suc n) h = omega (arith, rows_more n b, rows_few b n h, h n)
-
-module _ {X : Type 0} (P : X → Type 0) where
-  pub all_only : (b : Bool) (x : X) → P x → All P (only b x)
-  all_only true x h = (h, tt)
-  all_only false x h = tt
-
-  pub all_gathered : (f : ℕ → List X) (n : ℕ) → ((k : ℕ) → k < n → All P (f k)) → All P (gathered f n)
-  all_gathered f zero h = tt
-  all_gathered f (suc n) h =
-      All-append P (gathered f n) (f n) (all_gathered f n (λ k l. h k (omega arith))) (h n (omega arith))
 
 pub placed_none : {X : Type 0} (xs : List X) (k : ℕ) → placed xs k [] ≡ xs
 placed_none xs k = ap (λ n. take k xs ++ drop n xs) (add-zero k) ∙ take-append-drop k xs
@@ -174,19 +121,3 @@ pub written_all : {X : Type 0} (f : ℕ → List X) (i n : ℕ) (xs ys : List X)
     → ys ≡ gathered f n ++ drop (length (gathered f n)) xs
 written_all f i n xs ys end after =
     after ∙ placed_front xs (gathered f i) ∙ ap (λ k. gathered f k ++ drop (length (gathered f k)) xs) end
-
--- a loop that fills an array: ys up to place k are the lists below i, the next is written behind them
-pub filled_up : {X : Type 0} (f : ℕ → List X) (i k k' : ℕ) (ys zs : List X)
-    → k ≤ length ys
-    → take k ys ≡ gathered f i
-    → k' ≡ k + length (f i)
-    → zs ≡ placed ys k (f i)
-    → take k' zs ≡ gathered f (i + 1)
-filled_up f i k k' ys zs fits before next then =
-    let front = take k ys ++ f i in
-    let rest = drop (k + length (f i)) ys in
-    let size : length front ≡ k' = omega (arith, length-append (take k ys) (f i), length-take-le k ys fits) in
-    ap (take k') (then ∙ sym (append_assoc (take k ys) (f i) rest))
-    ∙ take_at front rest k' size
-    ∙ ap (λ l. l ++ f i) before
-    ∙ sym (gathered_more f i)

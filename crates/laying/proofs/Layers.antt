@@ -5,7 +5,6 @@ use Rattle.std.proofs.ByRecursion.{All-get_or, All-weaker}
 use Rattle.std.proofs.lemmas.List.{get_or-set_same, get_or-set_other}
 use Rattle.std.proofs.lemmas.Bool.{cases_eq, eq-eqb, ne_eqb}
 use Rattle.std.proofs.lemmas.Bool.Decides.{nat_tests}
-use Rattle.scene.proofs.Ranges as low
 use Rattle.scene.specs.Cells.{Cell, Scene, Sound}
 use Rattle.scene.specs.Read.{no_cell}
 use Rattle.forest.specs.Forest.{any, on, touch}
@@ -92,7 +91,13 @@ module _ (cs : List Cell) (t : Cell → Bool) (inside touched : List Bool) where
 
 module _ (s : Scene) (ok : Sound s) (c : ℕ) (h : c < length s.cells) where
   pub corners_low : All (λ v. v < 1024) (cell_at s.cells c).corners
-  corners_low = All-get_or (λ x. All (λ v. v < 1024) x.corners) s.cells c no_cell h (low.corners_low s ok)
+  corners_low =
+      All-weaker
+      (λ v. v < s.vertices)
+      (λ v. v < 1024)
+      (λ v l. omega (arith, ok.few_vertices))
+      (cell_at s.cells c).corners
+      (All-get_or (λ x. All (λ v. v < s.vertices) x.corners) s.cells c no_cell h ok.on_vertices)
 
   pub corner_low : (k : ℕ) → k < length (cell_at s.cells c).corners
       → get_or (cell_at s.cells c).corners k 0 < 1024

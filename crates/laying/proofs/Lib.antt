@@ -1,5 +1,5 @@
 mod Gather
-mod Sizes
+mod Links
 mod Anys
 mod Layers
 pub mod Counts

@@ -1,14 +1,10 @@
 -- What a row of flags tells, and what is counted and gathered number by number.
-use Rattle.std.specs.Prelude.{◌≡◌, ℕ, zero, suc, ◌+◌, ◌<◌, Bool, false, cond, ◌||◌, List, [], ◌∷◌, ◌++◌, slice_index, slice_index_or}
+use Rattle.std.specs.Prelude.{◌≡◌, ℕ, zero, suc, ◌+◌, ◌<◌, Bool, false, cond, ◌||◌, List, [], ◌∷◌, ◌++◌, length, take, drop, slice_index_or}
 use mir.Val.{bool_byte}
 
 -- the flags below n are the test's answers
 abbrev pub Tells : List Bool → ℕ → (ℕ → Bool) → Type 0
 Tells row n t = (k : ℕ) → k < n → slice_index_or row k false ≡ t k
-
--- the numbers of a row below n are the function's values
-abbrev pub Holds : List ℕ → ℕ → (ℕ → ℕ) → Type 0
-Holds row n f = (k : ℕ) → k < n → slice_index row k ≡ f k
 
 -- some number below n passes
 abbrev pub some : (ℕ → Bool) → ℕ → Bool
@@ -32,3 +28,7 @@ gathered f (suc n) = gathered f n ++ f n
 -- x alone if the test passes, else nothing
 abbrev pub only : {X : Type 0} → Bool → X → List X
 only b x = cond b (x ∷ []) []
+
+-- the list with ys in place of what stood from place k on
+abbrev pub placed : {X : Type 0} → List X → ℕ → List X → List X
+placed xs k ys = take k xs ++ (ys ++ drop (k + length ys) xs)

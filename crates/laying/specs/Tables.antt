@@ -1,23 +1,16 @@
--- The records that working tables say: for each board the vertices that it keeps and the numbers of its copies, for
--- each vertex its owner, and all roots by board, then vertex.
+-- The records that working tables say: a row of kept vertices for each board, and the vertices' owners.
 use Rattle.std.specs.Prelude.{ℕ, ◌+◌, Bool, not, ◌&&◌, List, [], length, ◌==◌, slice_index, slice_index_or}
-use Rattle.plan.specs.Sums.{sum_below}
 use Rattle.laying.specs.Rows.{flag, many, gathered, only}
-use Rattle.laying.specs.declared.roots.Root.{Root}
 use Rattle.plan.specs.declared.records.CopyRecord.{CopyRecord}
 use Rattle.plan.specs.declared.records.Edge.{Edge}
 
 -- the row of board p
-abbrev pub row : {X : Type 0} → List (List X) → ℕ → List X
+abbrev pub row : List (List Bool) → ℕ → List Bool
 row table p = slice_index_or table p []
 
--- board p's copy of v
-abbrev pub copy_of : ℕ → ℕ → CopyRecord
-copy_of p v = record { board = p; vertex = v }
-
--- the same, if board p keeps one
+-- board p's copy of v, if it keeps one
 abbrev pub copy_at : List Bool → ℕ → ℕ → List CopyRecord
-copy_at keep p v = only (flag keep v) (copy_of p v)
+copy_at keep p v = only (flag keep v) (record { board = p; vertex = v })
 
 -- the copies of board p, of n vertices
 abbrev pub row_copies : List Bool → ℕ → ℕ → List CopyRecord
@@ -30,61 +23,40 @@ board_copies table n p = row_copies (row table p) p n
 abbrev pub copies_in : List (List Bool) → ℕ → ℕ → List CopyRecord
 copies_in table n p = gathered (board_copies table n) p
 
--- the number of board p's copy of v: how many copies stand before it
-abbrev pub number_in : List (List Bool) → ℕ → ℕ → ℕ → ℕ
-number_in table n p v = length (copies_in table n p) + many (flag (row table p)) v
+-- a board p that keeps this row has a ghost of v whose root is on board q
+abbrev pub ghost_in : List Bool → List ℕ → ℕ → ℕ → ℕ → Bool
+ghost_in keep owners p q v = not (p == q) && (flag keep v && slice_index owners v == q)
 
--- board q's root of v, copy number x
-abbrev pub root_of : ℕ → ℕ → ℕ → Root
-root_of q v x = record { board = q; vertex = v; number = x }
+-- the edge at v from copy number x of board p to copy number y of board q, if there is one
+abbrev pub edge_if : List Bool → List ℕ → ℕ → ℕ → ℕ → ℕ → ℕ → List Edge
+edge_if mine owners p q v x y =
+    only (ghost_in mine owners p q v) (record { from = p; to = q; vertex = v; leaf = x; root = y })
 
--- the same with its number from the board's row, if v belongs to q
-abbrev pub root_at : List ℕ → List ℕ → ℕ → ℕ → List Root
-root_at owners numbers q v = only (slice_index owners v == q) (root_of q v (slice_index numbers v))
+-- the same, where the copies of board p begin at number leaf, and those of board q at number root
+abbrev pub edge_at : List Bool → List Bool → List ℕ → ℕ → ℕ → ℕ → ℕ → ℕ → List Edge
+edge_at mine theirs owners p q leaf root v =
+    edge_if mine owners p q v (leaf + many (flag mine) v) (root + many (flag theirs) v)
 
--- the roots of board q, of n vertices
-abbrev pub row_roots : List ℕ → List ℕ → ℕ → ℕ → List Root
-row_roots owners numbers q n = gathered (root_at owners numbers q) n
+abbrev pub link_edges : List Bool → List Bool → List ℕ → ℕ → ℕ → ℕ → ℕ → ℕ → List Edge
+link_edges mine theirs owners p q leaf root n = gathered (edge_at mine theirs owners p q leaf root) n
 
-abbrev pub board_roots : List ℕ → List (List ℕ) → ℕ → ℕ → List Root
-board_roots owners numbers n q = row_roots owners (row numbers q) q n
+-- the edges from board p to board q
+abbrev pub link_in : List (List Bool) → List ℕ → ℕ → ℕ → ℕ → List Edge
+link_in table owners n p q =
+    link_edges
+    (row table p)
+    (row table q)
+    owners
+    p
+    q
+    (length (copies_in table n p))
+    (length (copies_in table n q))
+    n
 
--- the roots of the boards below q
-abbrev pub roots_in : List ℕ → List (List ℕ) → ℕ → ℕ → List Root
-roots_in owners numbers n q = gathered (board_roots owners numbers n) q
+-- the edges from board p to the boards below b
+abbrev pub board_edges : List (List Bool) → List ℕ → ℕ → ℕ → ℕ → List Edge
+board_edges table owners n b p = gathered (link_in table owners n p) b
 
--- the root at place i
-abbrev pub ith_root : List Root → ℕ → Root
-ith_root roots i = slice_index_or roots i (root_of 0 0 0)
-
--- a board p that keeps these vertices has a ghost of the root
-abbrev pub ghost_in : List Bool → ℕ → Root → Bool
-ghost_in mine p r = not (p == r.board) && flag mine r.vertex
-
--- of how many of the first i roots it has a ghost
-abbrev pub ghosts_in : List Bool → ℕ → List Root → ℕ → ℕ
-ghosts_in mine p roots i = many (λ k. ghost_in mine p (ith_root roots k)) i
-
--- how many ghosts the boards below p have
-abbrev pub all_ghosts : List (List Bool) → List Root → ℕ → ℕ
-all_ghosts table roots p = sum_below p (λ q. ghosts_in (row table q) q roots (length roots))
-
--- the edge at v from copy number x of board p to copy number y of board q
-abbrev pub edge_of : ℕ → ℕ → ℕ → ℕ → ℕ → Edge
-edge_of p q v x y = record { from = p; to = q; vertex = v; leaf = x; root = y }
-
--- the edge from board p's ghost to the root, if there is one
-abbrev pub edge_at : List Bool → List ℕ → ℕ → Root → List Edge
-edge_at mine leaves p r =
-    only (ghost_in mine p r) (edge_of p r.board r.vertex (slice_index leaves r.vertex) r.number)
-
--- the edges from board p to the first i roots
-abbrev pub row_edges : List Bool → List ℕ → ℕ → List Root → ℕ → List Edge
-row_edges mine leaves p roots i = gathered (λ k. edge_at mine leaves p (ith_root roots k)) i
-
-abbrev pub board_edges : List (List Bool) → List (List ℕ) → List Root → ℕ → List Edge
-board_edges table numbers roots p = row_edges (row table p) (row numbers p) p roots (length roots)
-
--- the edges from the boards below p
-abbrev pub edges_in : List (List Bool) → List (List ℕ) → List Root → ℕ → List Edge
-edges_in table numbers roots p = gathered (board_edges table numbers roots) p
+-- the edges from the boards below p to those below b
+abbrev pub edges_in : List (List Bool) → List ℕ → ℕ → ℕ → ℕ → List Edge
+edges_in table owners n b p = gathered (board_edges table owners n b) p

@@ -1,6 +1,6 @@
 // Counting and writing the copies of a plan.
 ghost use Rattle.std.specs.Prelude.{◌≡◌, ◌+◌, ◌<◌, ◌≤◌, ◌++◌, length, drop};
-ghost use Rattle.element.specs.Lists.{placed};
+ghost use Rattle.laying.specs.Rows.{placed};
 ghost use Rattle.laying.specs.Tables.{copy_at, row_copies, copies_in};
 
 use crate::rows::{count, write_if};

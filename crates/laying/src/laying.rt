@@ -1,10 +1,10 @@
 // Laying the plan of a scene into memory handed in.
-ghost use Rattle.std.specs.Prelude.{◌≡◌, ◌≤◌, true, take, Ok, Err};
-ghost use Rattle.scene.specs.Cells.{Sound};
-ghost use Rattle.scene.specs.Layout.{scene_of};
+ghost use Rattle.std.specs.Prelude.{◌≡◌, true, Ok, Err};
 ghost use Rattle.plan.specs.Sound.{sound_plan};
 ghost use Rattle.forest.specs.Forest.{laid_copies, laid_edges};
 ghost use Rattle.forest.specs.Meaning.{StarForest};
+ghost use Rattle.scene.specs.Cells.{Sound};
+ghost use Rattle.scene.specs.Layout.{scene_of};
 ghost use Rattle.laying.specs.Laid.{Laid, Unlaid};
 ghost use Rattle.laying.specs.Right.{Right};
 ghost use Rattle.laying.specs.Seen.{seen};
@@ -12,11 +12,9 @@ ghost use Rattle.laying.specs.Seen.{seen};
 use crate::copies::{count_copies, write_copies};
 use crate::edges::{count_edges, write_edges};
 use crate::fault::LayFault;
-use crate::numbers::numbers;
 use crate::overlap::keep_all;
 use crate::owners::owners;
 use crate::read::{boards, vertices};
-use crate::roots::{Root, roots};
 use plan::records::{CopyRecord, Edge};
 use scene::view::SceneView;
 
@@ -27,30 +25,12 @@ pub struct LaidCounts {
     pub edges: usize,
 }
 
-// For each board the vertices that it keeps and the numbers of its copies; and the roots, `count` of them.
-#[derive(Drop)]
-struct Tables {
-    kept: [[bool; 1024]; 8],
-    numbers: [[u16; 1024]; 8],
-    roots: [Root; 1024],
-    count: usize,
-}
-
-fn tabulate(scene: &SceneView) -> Tables
+// For each board the vertices that it keeps, and for each vertex its owner.
+fn tables(scene: &SceneView) -> ([[bool; 1024]; 8], [u8; 1024])
     requires { Sound (seen scene.now) }
-    ensures count { result.count ≤ 1024 }
-    ensures right { Right (seen scene.now) result.kept result.numbers (take result.count result.roots) }
+    ensures { Right (seen scene.now) result.0 result.1 }
 {
-    let (boards, n) = (boards(scene), vertices(scene));
-    let kept = keep_all(scene);
-    let numbers = numbers(&kept, boards, n);
-    let (roots, count) = roots(&owners(scene), &numbers, boards, n);
-    Tables {
-        kept,
-        numbers,
-        roots,
-        count,
-    }
+    (keep_all(scene), owners(scene))
 }
 
 // Lays the plan of a sound scene. Nothing is written before both memories are known to be long enough.
@@ -68,11 +48,10 @@ fn lay_seen(
     ] }
 {
     let (boards, n) = (boards(scene), vertices(scene));
-    let tables = tabulate(scene);
-    let roots = &tables.roots[..tables.count];
+    let (table, owners) = tables(scene);
     let counts = LaidCounts {
-        copies: count_copies(&tables.kept, boards, n),
-        edges: count_edges(&tables.kept, roots, boards),
+        copies: count_copies(&table, boards, n),
+        edges: count_edges(&table, &owners, boards, n),
     };
     if copies.len() < counts.copies {
         return Err(LayFault::Copies {
@@ -84,8 +63,8 @@ fn lay_seen(
             needed: counts.edges,
         });
     }
-    write_copies(&tables.kept, boards, n, copies);
-    write_edges(&tables.kept, &tables.numbers, roots, boards, edges);
+    write_copies(&table, boards, n, copies);
+    write_edges(&table, &owners, boards, n, edges);
     Ok(counts)
 }
 

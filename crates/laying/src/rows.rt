@@ -1,7 +1,6 @@
 // Counting flags, and writing records one after another.
 ghost use Rattle.std.specs.Prelude.{◌≡◌, ◌+◌, ◌≤◌, length};
-ghost use Rattle.element.specs.Lists.{placed};
-ghost use Rattle.laying.specs.Rows.{flag, many, only};
+ghost use Rattle.laying.specs.Rows.{flag, many, only, placed};
 
 // How many of the first n flags are set.
 pub(crate) fn count(row: &[bool; 1024], n: usize) -> usize

@@ -1,3 +1,4 @@
 pub mod Lines
+pub mod Placed
 pub mod Held
 pub mod Readings

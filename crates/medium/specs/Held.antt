@@ -1,7 +1,7 @@
 -- What a queue keeps in its lanes, and what a put and a take make of it.
 use Rattle.std.specs.Prelude.{◌≡◌, ℕ, ◌+◌, ◌*◌, Bool, false, cond, ◌&&◌, List, [], ◌∷◌, ◌++◌, map, length, take, nat_lt, slice_index_or}
 use Rattle.medium.specs.Lanes.{Lanes, appended, is_lane, shortened}
-use Rattle.medium.specs.Changes.{Puts, Takes}
+use Rattle.medium.specs.Puts.{Puts, Takes}
 use Rattle.medium.specs.declared.frame.Frame.{Frame}
 use Rattle.medium.specs.declared.queue.Queue.{Queue}
 use Rattle.medium.specs.declared.queue.lane.Lane.{Lane}
@@ -38,7 +38,6 @@ OutsideKept s from to t = is_lane from to ≡ false → t ≡ s
 abbrev pub queue_puts : Puts Queue
 queue_puts s from to f k t =
     (k ≡ queue_count (queue_lanes s) from to) × (queue_lanes t ≡ appended (queue_lanes s) from to f k)
-    × OutsideKept s from to t
 
 -- a take from a queue removes the oldest frame
 abbrev pub queue_takes : Takes Queue

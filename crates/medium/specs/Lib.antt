@@ -1,5 +1,5 @@
 pub mod Lanes
-pub mod Changes
+pub mod Puts
 pub mod Held
 pub mod Faults
 pub mod Fates

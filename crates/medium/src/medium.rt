@@ -1,7 +1,7 @@
 // The trait of media: what put, take and waiting do to the lanes.
 ghost use Rattle.std.specs.Prelude.{◌≡◌, ℕ, ◌≤◌, false, [], length};
 ghost use Rattle.medium.specs.Lanes.{Lanes, Allowed, appended, first, is_lane, shortened};
-ghost use Rattle.medium.specs.Changes.{Puts, Takes};
+ghost use Rattle.medium.specs.Puts.{Puts, Takes};
 
 use crate::frame::Frame;
 

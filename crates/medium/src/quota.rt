@@ -1,7 +1,8 @@
 // A medium over any medium that refuses a put to a lane where its limit of frames waits.
-ghost use Rattle.std.specs.Prelude.{◌≡◌, ◌≤◌, Ok, Err};
+ghost use Rattle.std.specs.Prelude.{◌≡◌, ◌≤◌, [], ◌∷◌, Ok, Err};
 ghost use Rattle.element.specs.Numbers.{first_of, last_of};
-ghost use Rattle.medium.specs.Changes.{Rationed};
+ghost use Rattle.medium.specs.Lanes.{first, shortened};
+ghost use Rattle.medium.specs.Puts.{Rationed};
 ghost use Rattle.medium.specs.Faults.{IsLimit, quota_numbers};
 ghost use Rattle.std.proofs.Common.{rules};
 
@@ -43,7 +44,7 @@ impl Limit {
     pub fn new(frames: usize) -> Result<Limit, QuotaFault>
         ensures { elim result [
           | Ok l ↦ IsLimit frames × (l.frames ≡ frames)
-          | Err e ↦ (IsLimit frames → ⊥) × (e ≡ QuotaFault.Limit frames)
+          | Err e ↦ (IsLimit frames → ⊥) × (e ≡ QuotaFault.Limit frames) × (quota_numbers e ≡ 16 ∷ frames ∷ [])
         ] }
     {
         if frames < 1 || 64 < frames {
@@ -91,7 +92,12 @@ impl<M: Medium> Medium for Quota<M> {
         }
     }
 
-    fn take(&mut self, from: usize, to: usize) -> Option<Frame> {
+    fn take(&mut self, from: usize, to: usize) -> Option<Frame>
+        ensures value { result ≡ first (M.Medium.lanes self.old.below from to) }
+        ensures after { M.Medium.lanes self.new.below ≡ shortened (M.Medium.lanes self.old.below) from to }
+        ensures limit { self.new.limit ≡ self.old.limit }
+        ensures made { (self.new.limit ≡ self.old.limit) × M.Medium.takes self.old.below from to self.new.below }
+    {
         self.below.take(from, to)
     }
 

@@ -1,7 +1,7 @@
 // A medium over any medium that passes, drops or doubles its puts, by a table.
 ghost use Rattle.std.specs.Prelude.{◌≡◌, ◌<◌, length};
-ghost use Rattle.medium.specs.Lanes.{Allowed, appended};
-ghost use Rattle.medium.specs.Changes.{Doubled, Scripted};
+ghost use Rattle.medium.specs.Lanes.{Allowed, appended, first, shortened};
+ghost use Rattle.medium.specs.Puts.{Doubled, Scripted};
 ghost use Rattle.medium.specs.Fates.{code, entry, entry_after, table};
 ghost use Rattle.std.proofs.Common.{rules, arith};
 
@@ -96,7 +96,12 @@ impl<M: Medium> Medium for Script<M> {
         }
     }
 
-    fn take(&mut self, from: usize, to: usize) -> Option<Frame> {
+    fn take(&mut self, from: usize, to: usize) -> Option<Frame>
+        ensures value { result ≡ first (M.Medium.lanes self.old.below from to) }
+        ensures after { M.Medium.lanes self.new.below ≡ shortened (M.Medium.lanes self.old.below) from to }
+        ensures next { self.new.next ≡ self.old.next }
+        ensures made { (self.new.next ≡ self.old.next) × M.Medium.takes self.old.below from to self.new.below }
+    {
         self.below.take(from, to)
     }
 

@@ -15,7 +15,7 @@ pub enum PlanFault {
 
 impl PlanFault {
     // The refusal's number.
-    pub fn number(&self) -> usize
+    pub fn number(&self) -> u8
         ensures { result ≡ first_of (plan_numbers self.now) }
     {
         match *self {

@@ -1,6 +1,6 @@
 // Why a call of a run is refused.
-ghost use Rattle.std.specs.Prelude.{◌≡◌};
-ghost use Rattle.element.specs.Numbers.{first_of, last_of};
+ghost use Rattle.std.specs.Prelude.{◌≡◌, slice_index};
+ghost use Rattle.element.specs.Numbers.{last_of};
 ghost use Rattle.protocol.specs.Faults.{run_numbers};
 
 #[derive(Clone, Copy, PartialEq, Eq)]
@@ -22,7 +22,7 @@ pub enum RunFault {
 impl RunFault {
     // The refusal's number.
     pub fn number(&self) -> usize
-        ensures { result ≡ first_of (run_numbers self.now) }
+        ensures { result ≡ slice_index (run_numbers self.now) 0 }
     {
         match self {
             RunFault::Kind { kind: _ } => 10,

@@ -55,9 +55,9 @@ impl Refusal {
         ensures { result ≡ first_of (refusal_numbers self.now) }
     {
         match self {
-            Refusal::Scene(fault) => fault.number(),
-            Refusal::Lay(fault) => fault.number(),
-            Refusal::Plan(fault) => fault.number(),
+            Refusal::Scene(fault) => usize::from(fault.number()),
+            Refusal::Lay(fault) => usize::from(fault.number()),
+            Refusal::Plan(fault) => usize::from(fault.number()),
             Refusal::Run(fault) => fault.number(),
         }
     }
@@ -67,7 +67,7 @@ impl Refusal {
         ensures { result ≡ last_of (refusal_numbers self.now) }
     {
         match self {
-            Refusal::Scene(fault) => fault.last(),
+            Refusal::Scene(fault) => fault.place(),
             Refusal::Lay(fault) => fault.last(),
             Refusal::Plan(fault) => fault.last(),
             Refusal::Run(fault) => fault.last(),

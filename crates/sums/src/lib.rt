@@ -2,4 +2,4 @@
 #![tactic(auto)]
 
 pub mod own;
-mod table;
+mod sums;

@@ -1,18 +1,20 @@
 // Ways through a run's states as they are meant: one loads again before one starts again, and one ends a run before
 // its copies are shown.
-ghost use Rattle.std.specs.Prelude.{◌≡◌, ◌<◌, List, ◌++◌, length, drop, Some, Err};
+ghost use Rattle.std.specs.Prelude.{◌≡◌, ℕ, ◌<◌, List, [], ◌++◌, length, drop, Some, Ok, Err};
+ghost use Rattle.medium.specs.Lanes.{Lanes};
 ghost use Rattle.scene.specs.Cells.{Scene};
 ghost use Rattle.scene.specs.Views.{viewed};
 ghost use Rattle.plan.specs.Links.{shape};
-ghost use Rattle.protocol.specs.Books.{lowest_unsettled};
-ghost use Rattle.protocol.specs.Runs.{accepted_in};
+ghost use Rattle.plan.specs.Starts.{copies_on};
+ghost use Rattle.protocol.specs.Books.{Book, blank, lowest_unsettled};
+ghost use Rattle.protocol.specs.Runs.{Run, accepted_in, moment};
 ghost use Rattle.protocol.specs.declared.table.Link.{Link};
 ghost use Rattle.protocol.specs.declared.tally.Tally.{Tally};
 ghost use Rattle.sums.specs.Sums.{loaded_copies};
 ghost use Rattle.exchange.specs.Calls.{ShowAnswers};
 ghost use Rattle.exchange.specs.Loading.{load_fault};
-ghost use Rattle.exchange.specs.Going.{BeginAnswers, BeginsAfter, BeginsFresh, InEveryRun, LaidPlan};
-ghost use Rattle.exchange.specs.Going.{ShowsTotals, StartAnswers};
+ghost use Rattle.exchange.specs.Going.{BeginAnswers, BeginsAfter, BeginsFresh, Kept, LaidPlan};
+ghost use Rattle.exchange.specs.Going.{StartAnswers, totals_of};
 
 use super::load::load;
 use super::{Ended, Loaded, Turning};
@@ -36,9 +38,14 @@ fn start_fresh<E: Element, D: Medium>(
         plan.now.copies.now ++ drop (length plan.now.copies.now) memory) }
     ensures exact { StartAnswers (D.Medium.lanes medium.now) table.old.links
         table.new.links result }
-    ensures promise { BeginsFresh E.Element.algebra (viewed scene.now)
-        plan.now.boards plan.now.copies.now plan.now.edges.now
-        table.new.links copies.now (D.Medium.lanes medium.now) result }
+    ensures promise { elim result [
+      | Ok t ↦ (LaidPlan (viewed scene.now) plan.now.boards
+          plan.now.copies.now plan.now.edges.now
+          → Kept E.Element.algebra (viewed scene.now) []
+          (moment t.tally table.new.links copies.now (D.Medium.lanes medium.now))
+          blank 0)
+      | Err f ↦ Unit {0}
+    ] }
 {
     match loaded.start(plan, table, medium, copies) {
         Ok(turning) => Ok(turning),
@@ -61,12 +68,41 @@ pub fn begin<E: Element, D: Medium>(
     ensures exact { BeginAnswers E.Element.algebra (viewed scene.now)
         plan.now.copies.now (D.Medium.lanes medium.now) copies.old
         copies.new table.old.links table.new.links result }
-    ensures promise { BeginsFresh E.Element.algebra (viewed scene.now)
-        plan.now.boards plan.now.copies.now plan.now.edges.now
-        table.new.links copies.new (D.Medium.lanes medium.now) result }
+    ensures promise { elim result [
+      | Ok t ↦ (LaidPlan (viewed scene.now) plan.now.boards
+          plan.now.copies.now plan.now.edges.now
+          → Kept E.Element.algebra (viewed scene.now) []
+          (moment t.tally table.new.links copies.new (D.Medium.lanes medium.now))
+          blank 0)
+      | Err f ↦ Unit {0}
+    ] }
 {
     let loaded = load(scene, plan, copies)?;
     start_fresh(loaded, scene, plan, table, medium, copies)
+}
+
+// A run, one turn of it, and all over again. One loads again first: what the first run left are no own sums.
+pub fn start_over<E: Element, D: Medium>(
+    scene: &SceneView,
+    plan: &PlanView,
+    table: &mut LinkTable,
+    medium: &mut D,
+    copies: &mut [E],
+) -> Result<Turning, RunFault>
+    ensures { elim result [
+      | Ok t ↦ (LaidPlan (viewed scene.now) plan.now.boards
+          plan.now.copies.now plan.now.edges.now
+          → Kept E.Element.algebra (viewed scene.now) []
+          (moment t.tally table.new.links copies.new (D.Medium.lanes medium.new))
+          blank 0)
+      | Err f ↦ Unit {0}
+    ] }
+{
+    let mut first = begin(scene, plan, table, medium, copies)?;
+    let _ = first.turn(plan, table, medium, copies, 0);
+    let _ = first.abandon();
+    let second = begin(scene, plan, table, medium, copies)?;
+    Ok(second)
 }
 
 // A run over a worn link that is given up after one turn: the plan's copies are no own sums then. Memory past them
@@ -116,7 +152,7 @@ fn begin_anew<E: Element, D: Medium>(
 }
 
 // A run over a worn link, and all over again over a fresh one.
-pub fn start_over<E: Element, D: Medium>(
+pub fn start_anew<E: Element, D: Medium>(
     scene: &SceneView,
     plan: &PlanView,
     table: &mut LinkTable,
@@ -150,10 +186,15 @@ fn show_totals<'a, E: Element>(
         ≡ plan.now.boards }
     ensures exact { ShowAnswers plan.now.boards plan.now.copies.now
         copies.now board result }
-    ensures promise { (s : Scene) → LaidPlan s plan.now.boards
-        plan.now.copies.now plan.now.edges.now → (tally : Tally)
-        → InEveryRun E.Element.algebra s tally table.now.links
-        (ShowsTotals E.Element.algebra s plan.now.copies.now board copies.now result) }
+    ensures promise { elim result [
+      | Ok shown ↦ ((s : Scene) → LaidPlan s plan.now.boards
+          plan.now.copies.now plan.now.edges.now
+          → (tally : Tally) (lanes : Lanes) (ts : List ℕ) (book : Book) (losses : ℕ)
+          → Run E.Element.algebra s ts
+          (moment tally table.now.links copies.now lanes) book losses
+          → shown.now ≡ totals_of E.Element.algebra s (copies_on plan.now.copies.now board))
+      | Err f ↦ Unit {0}
+    ] }
 {
     let shown = ended.show(plan, copies, board)?;
     Ok(shown)
@@ -174,12 +215,17 @@ pub fn finish<'a, E: Element>(
     ensures exact { lowest_unsettled (shape plan.now.boards plan.now.edges.now)
         (accepted_in table.now.links) ≡ plan.now.boards
         → ShowAnswers plan.now.boards plan.now.copies.now copies.now board result }
-    ensures promise { (s : Scene) → LaidPlan s plan.now.boards
-        plan.now.copies.now plan.now.edges.now
-        → InEveryRun E.Element.algebra s turning.tally table.now.links
-        (ShowsTotals E.Element.algebra s plan.now.copies.now board copies.now result) }
+    ensures promise { elim result [
+      | Ok shown ↦ ((s : Scene) → LaidPlan s plan.now.boards
+          plan.now.copies.now plan.now.edges.now
+          → (tally : Tally) (lanes : Lanes) (ts : List ℕ) (book : Book) (losses : ℕ)
+          → Run E.Element.algebra s ts
+          (moment tally table.now.links copies.now lanes) book losses
+          → shown.now ≡ totals_of E.Element.algebra s (copies_on plan.now.copies.now board))
+      | Err f ↦ Unit {0}
+    ] }
 {
-    match turning.end::<E>(plan, table) {
+    match turning.end(plan, table) {
         Ok(done) => {
             let (ended, _) = done;
             let shown = show_totals(&ended, plan, table, copies, board);

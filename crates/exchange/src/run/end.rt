@@ -1,14 +1,11 @@
 // The two ways out of a run.
-ghost use Rattle.std.specs.Prelude.{◌≡◌, ℕ, ◌<◌, ◌≤◌, not, Some, None, Ok, Err, nat_lt};
-ghost use Rattle.scene.specs.Cells.{Scene};
+ghost use Rattle.std.specs.Prelude.{◌≡◌, ℕ, ◌<◌, ◌≤◌, not, Ok, Err, nat_lt};
 ghost use Rattle.plan.specs.Links.{shape};
 ghost use Rattle.protocol.specs.Books.{lowest_unsettled};
 ghost use Rattle.protocol.specs.Runs.{accepted_in};
-ghost use Rattle.exchange.specs.Going.{EndsByTheBook, InEveryRun, LaidPlan};
 
 use super::report::report_on;
 use super::{Ended, Loaded, Turning};
-use element::element::Element;
 use plan::view::PlanView;
 use protocol::fault::RunFault;
 use protocol::table::LinkTable;
@@ -30,31 +27,14 @@ fn first_unsettled(plan: &PlanView, table: &LinkTable) -> usize
     boards
 }
 
-// The lowest board that is not settled, if there is one.
-fn lowest_unsettled(plan: &PlanView, table: &LinkTable) -> Option<usize>
-    ensures { elim result [
-      | None ↦ lowest_unsettled (shape plan.now.boards plan.now.edges.now)
-          (accepted_in table.now.links) ≡ plan.now.boards
-      | Some board ↦ (board ≡ lowest_unsettled (shape plan.now.boards plan.now.edges.now)
-          (accepted_in table.now.links)) × (board < plan.now.boards)
-    ] }
-{
-    let board = first_unsettled(plan, table);
-    if board < plan.boards() {
-        Some(board)
-    } else {
-        None
-    }
-}
-
 impl Turning {
-    // Ends the run exactly if every board is settled; answers its tally. E is the type of the run's elements.
-    pub fn end<E: Element>(
+    // Ends the run exactly if every board is settled; answers its tally.
+    pub fn end(
         self,
         plan: &PlanView,
         table: &LinkTable,
     ) -> Result<(Ended, Tally), (Turning, RunFault)>
-        ensures exact { elim result [
+        ensures { elim result [
           | Ok e ↦ (lowest_unsettled
               (shape plan.now.boards plan.now.edges.now)
               (accepted_in table.now.links) ≡ plan.now.boards) × (e.0.tally ≡ self.tally) ×
@@ -65,12 +45,9 @@ impl Turning {
               (e.1 ≡ RunFault.Early (lowest_unsettled (shape plan.now.boards
               plan.now.edges.now) (accepted_in table.now.links)))
         ] }
-        ensures promise { (s : Scene) → LaidPlan s plan.now.boards
-            plan.now.copies.now plan.now.edges.now
-            → InEveryRun E.Element.algebra s self.tally table.now.links
-            (EndsByTheBook E.Element.algebra s result) }
     {
-        if let Some(board) = lowest_unsettled(plan, table) {
+        let board = first_unsettled(plan, table);
+        if board < plan.boards() {
             return Err((self, RunFault::Early { board }));
         }
         let Turning { tally } = self;
@@ -91,7 +68,7 @@ impl Turning {
             (shape plan.now.boards plan.now.edges.now)
             (accepted_in table.now.links)) plan.now.boards) }
     {
-        lowest_unsettled(plan, table).is_none()
+        !(first_unsettled(plan, table) < plan.boards())
     }
 
     pub fn tally(&self) -> Tally

@@ -8,7 +8,7 @@ use element::kinds::is_kind_of;
 use plan::view::PlanView;
 use protocol::fault::RunFault;
 use scene::view::SceneView;
-use sums::own::set_own_sums;
+use sums::own::load_own_sums;
 
 // Sets each copy of the plan to its board's own sum; memory past them stays as it was.
 pub fn load<E: Element>(
@@ -23,6 +23,6 @@ pub fn load<E: Element>(
     if !is_kind_of::<E>(kind) {
         return Err(RunFault::Kind { kind });
     }
-    let set = set_own_sums(scene, plan, copies)?;
+    let set = load_own_sums(scene, plan, copies)?;
     Ok(Loaded { copies: set })
 }

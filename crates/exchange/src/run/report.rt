@@ -1,13 +1,10 @@
 // What a board still lacks.
 ghost use Rattle.std.specs.Prelude.{◌≡◌, ℕ, ◌<◌, ◌≤◌, cond, Ok, Err, nat_lt};
-ghost use Rattle.scene.specs.Cells.{Scene};
 ghost use Rattle.plan.specs.Links.{shape};
 ghost use Rattle.protocol.specs.Books.{lacks, report_by};
 ghost use Rattle.protocol.specs.Runs.{accepted_in};
-ghost use Rattle.exchange.specs.Going.{InEveryRun, LaidPlan, ReportsTheBook};
 
 use super::Turning;
-use element::element::Element;
 use plan::view::PlanView;
 use protocol::fault::RunFault;
 use protocol::table::LinkTable;
@@ -39,36 +36,21 @@ pub(crate) fn report_on(plan: &PlanView, table: &LinkTable, p: usize) -> Report
     Report::Settled
 }
 
-// Refuses a board that is not below the count.
-pub(crate) fn check_board(plan: &PlanView, board: usize) -> Result<(), RunFault>
-    ensures { elim result [
-      | Ok _ ↦ board < plan.now.boards
-      | Err f ↦ (plan.now.boards ≤ board) × (f ≡ RunFault.Board board)
-    ] }
-{
-    if board >= plan.boards() {
-        return Err(RunFault::Board { given: board });
-    }
-    Ok(())
-}
-
 impl Turning {
-    // Says whether a board is settled, or else which board's items it awaits. E is the type of the run's elements.
-    pub fn report<E: Element>(
+    // Says whether a board is settled, or else which board's items it awaits.
+    pub fn report(
         &self,
         plan: &PlanView,
         table: &LinkTable,
         board: usize,
     ) -> Result<Report, RunFault>
-        ensures exact { result ≡ cond (nat_lt board plan.now.boards)
+        ensures { result ≡ cond (nat_lt board plan.now.boards)
             (Ok (report_by (shape plan.now.boards plan.now.edges.now)
             (accepted_in table.now.links) board)) (Err (RunFault.Board board)) }
-        ensures promise { (s : Scene) → LaidPlan s plan.now.boards
-            plan.now.copies.now plan.now.edges.now
-            → InEveryRun E.Element.algebra s self.now.tally table.now.links
-            (ReportsTheBook E.Element.algebra s board result) }
     {
-        check_board(plan, board)?;
+        if board >= plan.boards() {
+            return Err(RunFault::Board { given: board });
+        }
         Ok(report_on(plan, table, board))
     }
 }

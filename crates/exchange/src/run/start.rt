@@ -1,5 +1,5 @@
 // From loaded to turning.
-ghost use Rattle.std.specs.Prelude.{◌≡◌, ℕ, ◌<◌, ◌≤◌, [], replicate, Ok, Err};
+ghost use Rattle.std.specs.Prelude.{◌≡◌, ℕ, ◌/◌, ◌%◌, ◌<◌, ◌≤◌, [], replicate, Ok, Err};
 ghost use Rattle.scene.specs.Cells.{Scene};
 ghost use Rattle.protocol.specs.Books.{blank};
 ghost use Rattle.protocol.specs.Runs.{no_link, no_tally};
@@ -66,8 +66,8 @@ impl Loaded {
           | Ok t ↦ IdleBefore (D.Medium.lanes medium.now) 64 ×
               (t.tally ≡ no_tally) × (table.new.links ≡ replicate 64 no_link)
           | Err e ↦
-              WaitingFault (D.Medium.lanes medium.now) e.1 × (e.0 ≡ self) ×
-              (table.new ≡ table.old)
+              ((k : ℕ) × FirstWaiting (D.Medium.lanes medium.now) k ×
+              (e.1 ≡ RunFault.Waiting (k / 8) (k % 8))) × (e.0 ≡ self) × (table.new ≡ table.old)
         ] }
         ensures promise { elim result [
           | Ok t ↦ ((s : Scene) → LaidPlan s plan.now.boards

@@ -1,20 +1,19 @@
 // The numbers sent back for a fault.
 ghost use Rattle.std.specs.Prelude.{◌≡◌, slice_index};
-ghost use Rattle.element.specs.Numbers.{first_of, last_of};
 ghost use Rattle.laying.specs.Faults.{lay_numbers};
 
 use super::LayFault;
 
 impl LayFault {
-    // The refusal's number.
-    pub fn number(&self) -> usize
-        ensures { result ≡ first_of (lay_numbers self.now) }
+    // The number of the refusal.
+    pub fn number(&self) -> u8
+        ensures { result ≡ slice_index (lay_numbers self.now) 0 }
     {
         8
     }
 
     // Which records were too few: 0 for copies, 1 for edges.
-    pub fn which(&self) -> usize
+    pub fn which(&self) -> u8
         ensures { result ≡ slice_index (lay_numbers self.now) 1 }
     {
         match self {
@@ -23,9 +22,9 @@ impl LayFault {
         }
     }
 
-    // The last of its values: the length needed.
+    // The last number: the length needed.
     pub fn last(&self) -> usize
-        ensures { result ≡ last_of (lay_numbers self.now) }
+        ensures { result ≡ slice_index (lay_numbers self.now) 2 }
     {
         match self {
             LayFault::Copies { needed } => *needed,

@@ -1,7 +1,7 @@
 // What others see of a line, and how it goes into memory that is handed in.
 ghost use Rattle.std.specs.Prelude.{◌≡◌, ◌+◌, ◌<◌, ◌≤◌, length, Ok, Err};
-ghost use Rattle.element.specs.Lists.{placed};
 ghost use Rattle.listing.specs.Held.{held};
+ghost use Rattle.listing.specs.Placed.{placed};
 
 use super::{Line, NoRoom};
 

@@ -1,7 +1,8 @@
 // A queue is a medium.
 ghost use Rattle.std.specs.Prelude.{◌≡◌, ◌+◌, ◌*◌, ◌≤◌, true, [], length};
-ghost use Rattle.medium.specs.Lanes.{appended, first, is_lane, shortened};
+ghost use Rattle.medium.specs.Lanes.{Allowed, appended, first, is_lane, shortened};
 ghost use Rattle.medium.specs.Held.{queue_count, queue_lanes, queue_puts, queue_takes, table_lanes};
+ghost use Rattle.medium.specs.Held.{OutsideKept};
 ghost use Rattle.std.proofs.Common.{arith, rules};
 ghost use Rattle.std.proofs.lemmas.Bool.{cond_both};
 ghost use Rattle.medium.specs.Tables.{all_few};
@@ -55,7 +56,13 @@ impl Medium for Queue {
 
     ghost outside = { first_of (Prim.search rules, Prim.grind (arith, Self.row.coded.inj)) };
 
-    fn put(&mut self, from: usize, to: usize, frame: Frame) -> usize {
+    fn put(&mut self, from: usize, to: usize, frame: Frame) -> usize
+        ensures count { Allowed from to result }
+        ensures after { queue_lanes self.new ≡ appended (queue_lanes self.old) from to frame result }
+        ensures made { queue_puts self.old from to frame result self.new }
+        ensures exact { result ≡ queue_count (queue_lanes self.old) from to }
+        ensures outside { OutsideKept self.old from to self.new }
+    {
         if !is_lane(from, to) {
             return 0;
         }

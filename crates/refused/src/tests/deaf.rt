@@ -1,7 +1,7 @@
 // A medium that keeps no frame.
 ghost use Rattle.std.specs.Prelude.{◌≡◌};
 ghost use Rattle.medium.specs.Lanes.{empty_lanes};
-ghost use Rattle.medium.specs.Changes.{Dropped};
+ghost use Rattle.medium.specs.Puts.{Dropped};
 ghost use Rattle.std.proofs.Common.{rules};
 
 use medium::frame::Frame;

@@ -1,5 +1,5 @@
 // The numbers that stand for a fault.
-ghost use Rattle.std.specs.Prelude.{◌≡◌};
+ghost use Rattle.std.specs.Prelude.{◌≡◌, slice_index};
 ghost use Rattle.element.specs.Numbers.{first_of, last_of};
 ghost use Rattle.scene.specs.Faults.{fault_numbers, record_numbers};
 
@@ -7,7 +7,7 @@ use super::{RecordFault, SceneFault};
 
 impl RecordFault {
     // The refusal's number.
-    pub fn number(&self) -> usize
+    pub fn number(&self) -> u8
         ensures { result ≡ first_of (record_numbers self.now) }
     {
         match *self {
@@ -39,10 +39,17 @@ impl RecordFault {
 
 impl SceneFault {
     // The refusal's number: that of the record's fault.
-    pub fn number(&self) -> usize
-        ensures { result ≡ first_of (fault_numbers self.now) }
+    pub fn number(&self) -> u8
+        ensures { result ≡ slice_index (fault_numbers self.now) 0 }
     {
         self.fault.number()
+    }
+
+    // The byte of the scene at which it is broken.
+    pub fn place(&self) -> usize
+        ensures { result ≡ slice_index (fault_numbers self.now) 1 }
+    {
+        self.last()
     }
 
     // The last of its values: that of the record's fault.

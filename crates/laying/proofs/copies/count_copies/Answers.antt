@@ -3,7 +3,7 @@ use Rattle.std.proofs.Common.{◌+◌, ◌≤◌, arith, rules}
 use Rattle.laying.specs.Rows.{flag}
 use Rattle.laying.specs.Tables.{row, board_copies}
 use Rattle.laying.proofs.Gather.{length_more, many_le}
-use Rattle.laying.proofs.Sizes.{row_size}
+use Rattle.laying.proofs.Links.{row_size}
 use Rattle.laying.proofs.copies.count_copies.Goals as goal
 
 pub overflow_add-k : goal.overflow_add-k

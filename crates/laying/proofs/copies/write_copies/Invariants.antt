@@ -1,6 +1,6 @@
 -- The copies of the boards below p stand.
 use Rattle.std.proofs.Common.{◌≡◌, ◌+◌, length}
-use Rattle.element.specs.Lists.{placed}
+use Rattle.laying.specs.Rows.{placed}
 use Rattle.laying.specs.Tables.{copies_in}
 use Rattle.laying.proofs.copies.write_copies.Given as goal
 

@@ -1,6 +1,6 @@
 -- The copies of the vertices below v stand.
 use Rattle.std.proofs.Common.{◌≡◌, ◌+◌, length}
-use Rattle.element.specs.Lists.{placed}
+use Rattle.laying.specs.Rows.{placed}
 use Rattle.laying.specs.Tables.{row_copies}
 use Rattle.laying.proofs.copies.write_row.Given as goal
 

@@ -1,26 +1,28 @@
--- One root more.
-use Rattle.std.proofs.Common.{ℕ, ◌+◌, ◌<◌, ◌≤◌, Bool, ap, arith, rules}
-use mir.Val.{bool_byte}
-use Rattle.std.proofs.ByRecursion.{All-get_or}
-use Rattle.laying.specs.Tables.{ith_root, ghost_in}
-use Rattle.laying.proofs.Gather.{many_more, many_le, byte_le}
+-- One root board more.
+use Rattle.std.proofs.Common.{◌+◌, ◌≤◌, length, arith, rules}
+use Rattle.laying.specs.Tables.{row, ghost_in, link_in, copies_in}
+use Rattle.laying.proofs.Gather.{length_more, many_le}
+use Rattle.laying.proofs.Links.{link_size}
 use Rattle.laying.proofs.edges.count_board.Goals as goal
-
-pub is_ghost-requires : goal.is_ghost-requires
-is_ghost-requires c =
-    All-get_or (λ r. r.vertex < 1024) c.args.roots.now c.loop-i.i _ c.loop-i-test.true c.requires.low
 
 pub overflow_add-k : goal.overflow_add-k
 overflow_add-k c =
-    let t : ℕ → Bool = λ i. ghost_in c.args.mine.now c.args.p (ith_root c.args.roots.now i) in
-    let i = c.loop-i.i in
-    let small : c.loop-i.k + c.from-k.result ≤ 2048 =
-    omega (arith, c.loop-i.invariant, many_le t i, byte_le c.is_ghost.result, c.from-k.ensures, c.requires.few)
+    let t = ghost_in (row c.args.table.now c.args.p) c.args.owners.now c.args.p c.loop-q.q in
+    let small : c.loop-q.k + c.count_link-k.result ≤ 16384 =
+    omega (arith, c.loop-q.invariant.1, many_le t c.args.n, c.count_link-k.ensures)
     in
     search rules
 
-pub loop-i-preserved : goal.loop-i-preserved
-loop-i-preserved c =
-    let t : ℕ → Bool = λ i. ghost_in c.args.mine.now c.args.p (ith_root c.args.roots.now i) in
-    let here = ap bool_byte c.is_ghost.ensures in
-    omega (arith, c.loop-i.invariant, many_more t c.loop-i.i, here, c.from-k.ensures)
+pub loop-q-preserved : goal.loop-q-preserved
+loop-q-preserved c =
+    let table = c.args.table.now in
+    let owners = c.args.owners.now in
+    let n = c.args.n in
+    let p = c.args.p in
+    let q = c.loop-q.q in
+    let size =
+    link_size (row table p) (row table q) owners p q (length (copies_in table n p)) (length (copies_in table n q)) n
+    in (
+      omega (arith, c.loop-q.invariant.0, length_more (link_in table owners n p) q, size, c.count_link-k.ensures),
+      omega (arith, c.loop-q.invariant.1, many_le (ghost_in (row table p) owners p q) n, c.count_link-k.ensures),
+    )

@@ -1,7 +1,7 @@
--- So many ghosts of the roots below number i.
-use Rattle.std.proofs.Common.{◌≡◌}
-use Rattle.laying.specs.Tables.{ghosts_in}
+-- As many as there are edges to the boards below q, and few.
+use Rattle.std.proofs.Common.{◌≡◌, ◌*◌, ◌≤◌, length}
+use Rattle.laying.specs.Tables.{board_edges}
 use Rattle.laying.proofs.edges.count_board.Given as goal
 
-abbrev pub invariant-loop-i : goal.invariant-loop-i
-invariant-loop-i l = l.k ≡ ghosts_in l.mine l.p l.roots l.i
+abbrev pub invariant-loop-q : goal.invariant-loop-q
+invariant-loop-q l = (l.k ≡ length (board_edges l.table l.owners l.n l.q l.p)) × (l.k ≤ 1024 * l.q)

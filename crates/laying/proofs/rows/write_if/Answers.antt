@@ -1,7 +1,6 @@
 -- One record, or none.
 use Rattle.std.proofs.Common.{◌+◌, ◌<◌, length, sym, ap, ◌∙◌, add-zero, arith}
-use Rattle.element.specs.Lists.{placed}
-use Rattle.laying.specs.Rows.{only}
+use Rattle.laying.specs.Rows.{only, placed}
 use Rattle.laying.proofs.Gather.{placed_none, placed_one}
 use Rattle.laying.proofs.rows.write_if.Goals as goal
 

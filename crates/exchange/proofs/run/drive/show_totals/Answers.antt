@@ -1,6 +1,5 @@
 -- What is shown are totals, since the run may end.
-use Rattle.std.proofs.Common.{◌≡◌, sym, ap, ◌∙◌, arith}
-use Rattle.plan.specs.Starts.{values_on}
+use Rattle.std.proofs.Common.{◌≡◌, ◌∙◌, arith}
 use Rattle.protocol.specs.Runs.{moment}
 use Rattle.exchange.proofs.Shown.{shown_are_totals}
 use Rattle.exchange.proofs.run.drive.show_totals.Goals as goal
@@ -11,10 +10,9 @@ returns g c =
     let shown = c.in_ok-shown.ensures in
     record {
       exact = shown;
-      promise = λ s laid tally copies lanes ts book losses run same.
+      promise = λ s laid tally lanes ts book losses run.
           shown.1
-          ∙ ap (λ held. values_on plan.copies.now held c.args.board) (sym same)
           ∙ shown_are_totals g.E.Element.algebra g.met.E.Element.lawful s plan.boards plan.copies.now
-          plan.edges.now plan.sound laid ts (moment tally c.args.table.now.links copies lanes) book
+          plan.edges.now plan.sound laid ts (moment tally c.args.table.now.links c.args.copies.now lanes) book
           losses run (omega (arith, c.requires)) c.args.board;
     }

@@ -1,8 +1,0 @@
--- So far the first c cells.
-use Rattle.std.proofs.Common.{take}
-use Rattle.scene.specs.Views.{viewed}
-use Rattle.sums.specs.Sums.{HoldsSums}
-use Rattle.sums.proofs.table.own_sums.Given as goal
-
-abbrev pub invariant-loop-c : goal.invariant-loop-c
-invariant-loop-c g l = HoldsSums g.E.Element.algebra (take l.c (viewed l.scene).cells) l.table
