@@ -19,7 +19,7 @@ use Rattle.exchange.specs.Loading.{load_fault}
 use Rattle.exchange.specs.declared.run.Turning.{Turning}
 use Rattle.exchange.proofs.Over.{not_both}
 use Rattle.listing.specs.declared.lines.PlanNumbers.{PlanNumbers}
-use Rattle.circles.specs.Circles.{Settles}
+use Rattle.circles.specs.Circles.{SettleAnswers}
 use Rattle.circles.proofs.Turns.{circles_carry, circles_turns}
 use Rattle.cabinet.specs.Pages.{head_page, numbers_of, boards_page, reports}
 use Rattle.cabinet.specs.Listed.{Listed, RunTold, circle_limit}
@@ -89,7 +89,7 @@ module _ {M : Type 0} (A : Algebra M) (law : Lawful A) (s : Scene) (m m' : Momen
   -- what is known where a run is listed
   abbrev TurnedTo : Result Bool RunFault → ℕ → List CopyRecord → List Edge → Type 0
   TurnedTo r boards records edges =
-      Settles A boards records edges circle_limit m m' r
+      SettleAnswers A boards records edges circle_limit m m' r
       × (length records ≤ length m'.copies)
       × (page ≡ head_page (numbers_of s records edges) m'.tally
       ++ boards_page A (reports boards edges m'.links) records m'.copies boards)
@@ -106,7 +106,7 @@ module _ {M : Type 0} (A : Algebra M) (law : Lawful A) (s : Scene) (m m' : Momen
         few = few;
         at = m';
         circled = rounds;
-        ended = λ un. all (decides ∙ ap not un);
+        ended = λ l. all (decides ∙ ap not (lt-ltb _ _ l));
         book = book;
         losses = losses;
         kept = kept;

@@ -1,5 +1,5 @@
 -- What the page of a scene tells.
-use Rattle.std.specs.Prelude.{◌≡◌, ℕ, ◌/◌, ◌%◌, ◌<◌, ◌≤◌, true, List, [], length, Ok, Err, Result}
+use Rattle.std.specs.Prelude.{◌≡◌, ℕ, ◌/◌, ◌%◌, ◌<◌, ◌≤◌, List, [], length, Ok, Err, Result}
 use Rattle.element.specs.Algebra.{Algebra}
 use Rattle.element.specs.Models.{force_algebra, depth_algebra, tags_algebra}
 use Rattle.medium.specs.Lanes.{Lanes}
@@ -9,12 +9,12 @@ use Rattle.scene.specs.Rules.{scene_rules, verdict}
 use Rattle.scene.specs.declared.fault.SceneFault.{SceneFault}
 use Rattle.forest.specs.Forest.{laid_copies, laid_edges}
 use Rattle.laying.specs.declared.fault.LayFault.TheVariants.{Copies, Edges}
-use Rattle.protocol.specs.Books.{Book, blank}
-use Rattle.protocol.specs.Runs.{Moment}
+use Rattle.protocol.specs.Books.{Book, blank, lowest_unsettled}
+use Rattle.protocol.specs.Runs.{Moment, accepted_in, laid}
 use Rattle.exchange.specs.Calls.{FirstWaiting, IdleBefore}
 use Rattle.exchange.specs.Going.{Kept}
 use Rattle.protocol.specs.declared.fault.RunFault.TheVariants.{Waiting}
-use Rattle.circles.specs.Circles.{circles, unsettled, UnsettledCircles}
+use Rattle.circles.specs.Circles.{circles, UnsettledCircles}
 use Rattle.cabinet.specs.Pages.{listing}
 use Rattle.cabinet.specs.Pages.{refused_page}
 use Rattle.refusals.specs.declared.refusal.Refusal.TheVariants.{Scene as SceneRefused, Lay, Run}
@@ -27,19 +27,19 @@ abbrev pub circle_limit : ℕ
 circle_limit = 100000
 
 -- the page is the listing of a moment that circles led to from a fresh start, with all that is promised of it;
--- before each circle some board was not settled, and at the end none is but if every circle allowed was made
+-- some board is not settled only if every circle allowed was made, and some was not before each circle
 pub record Listed {M : Type 0} (A : Algebra M) (s : Scene) (page : List ℕ) : Type 0 where
-  pub start : Moment M
-  pub begun : Kept A s [] start blank 0
-  pub rounds : ℕ
-  pub few : rounds ≤ circle_limit
   pub at : Moment M
-  pub circled : UnsettledCircles A s.boards (laid_copies s) (laid_edges s) start rounds at
-  pub ended : unsettled s.boards (laid_edges s) at ≡ true → rounds ≡ circle_limit
+  pub rounds : ℕ
   pub book : Book
   pub losses : ℕ
+  pub few : rounds ≤ circle_limit
   pub kept : Kept A s (circles s.boards rounds) at book losses
+  pub ended : lowest_unsettled (laid A s) (accepted_in at.links) < s.boards → rounds ≡ circle_limit
   pub told : page ≡ listing A s (laid_copies s) (laid_edges s) at
+  pub start : Moment M
+  pub begun : Kept A s [] start blank 0
+  pub circled : UnsettledCircles A s.boards (laid_copies s) (laid_edges s) start rounds at
 
 -- over a medium with nothing under way the run is listed; else the first lane with a frame is refused
 pub record RunTold {M : Type 0} (A : Algebra M) (s : Scene) (lanes : Lanes) (page : List ℕ) : Type 0 where

@@ -4,3 +4,6 @@
 pub mod listed;
 mod page;
 pub mod prepare;
+
+pub use circles::settle;
+pub use refusals::refusal;

@@ -14,6 +14,7 @@ use element::depth::Depth;
 use element::element::Element;
 use element::force::Force;
 use element::tags::Tags;
+use exchange::run::book::{end_by_the_book, report_by_the_book};
 use exchange::run::drive::begin;
 use exchange::run::{Ended, Turning};
 use listing::lines::{PlanNumbers, plan_line, refusal_line, tally_line};
@@ -112,7 +113,7 @@ fn add_reported<E: Element>(
 {
     let part = plan.board_part(board);
     let (from, end) = (part.from, part.from + part.count);
-    match turning.report::<E>(plan, table, board) {
+    match report_by_the_book::<E>(turning, plan, table, board) {
         Ok(report) => add_board(
             page,
             board,
@@ -198,7 +199,7 @@ fn list_turned<E: Element>(
         (reports plan.now.boards plan.now.edges.now table.now.links)
         plan.now.copies.now values.now plan.now.boards) }
 {
-    match turning.end::<E>(plan, table) {
+    match end_by_the_book::<E>(turning, plan, table) {
         Ok(done) => {
             let (ended, tally) = done;
             let page = list_ended(heap, numbers, tally, &ended, plan, values);

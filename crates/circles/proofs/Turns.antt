@@ -1,19 +1,21 @@
 -- Turns of the boards in ascending order, and circles of them.
-use Rattle.std.proofs.Common.{◌≡◌, ℕ, zero, suc, ◌+◌, ◌*◌, ◌<◌, ◌≤◌, Bool, true, false, not, List, [], ◌∷◌, ◌++◌, length, Ok, Err, sym, refl, ap, ◌∙◌, subst, add-mul, add-one, arith}
+use Rattle.std.proofs.Common.{◌≡◌, ℕ, zero, suc, ◌+◌, ◌*◌, ◌<◌, ◌≤◌, Bool, true, false, not, List, [], ◌∷◌, ◌++◌, ◌⊎◌, length, Some, Ok, Err, Result, sym, refl, ap, ◌∙◌, subst, inl, inr, mul-le-mul_right, add-mul, add-one, arith}
+use Rattle.std.proofs.lemmas.Bool.{cases_lt, lt-ltb, le-leb}
 use Rattle.std.specs.List.{range_with_len}
 use Rattle.element.specs.Algebra.{Algebra, Lawful}
 use Rattle.plan.specs.declared.records.CopyRecord.{CopyRecord}
 use Rattle.plan.specs.declared.records.Edge.{Edge}
 use Rattle.scene.specs.Cells.{Scene}
 use Rattle.forest.proofs.Filters.{counting_next}
+use Rattle.protocol.specs.Faults.{turn_limit}
 use Rattle.protocol.specs.Runs.{Moment}
 use Rattle.protocol.specs.declared.tally.Tally.{Tally}
 use Rattle.protocol.specs.declared.tally.TurnCounts.{TurnCounts}
 use Rattle.protocol.specs.declared.fault.RunFault.{RunFault}
-use Rattle.exchange.specs.Calls.{TurnAnswers}
+use Rattle.exchange.specs.Calls.{TurnAnswers, turn_fault}
 use Rattle.exchange.specs.Going.{LaidPlan, Carried, Goes_on}
 use Rattle.exchange.proofs.Promises.{carried_nowhere, carried_on, carried_further, carried_still}
-use Rattle.circles.specs.Circles.{circles, unsettled, TurnedBelow, Circled, UnsettledCircles, none, one_more}
+use Rattle.circles.specs.Circles.{circles, unsettled, TurnedBelow, CircleAnswers, Circled, SettleAnswers, Settles, UnsettledCircles, none, one_more}
 
 pub unsettled_from : (b : Bool) → not b ≡ false → b ≡ true
 unsettled_from true e = refl
@@ -48,9 +50,9 @@ module _ {M : Type 0} (A : Algebra M) (law : Lawful A) (boards : ℕ) (records :
 
     -- the next board's turn is refused
     pub next_board_refused : (m m₁ m₂ : Moment M) (p : ℕ) (f : RunFault) → p < boards → Below p m m₁
-        → TurnAnswers A boards records edges p m₁ m₂ (Err f) → Circled A boards records edges m m₂ (Err f)
+        → TurnAnswers A boards records edges p m₁ m₂ (Err f) → CircleAnswers A boards records edges m m₂ (Err f)
     next_board_refused m m₁ m₂ p f l so_far (against, same) =
-        subst (λ x. Circled A boards records edges m x (Err f)) (sym same) (p, l, so_far, against)
+        subst (λ x. CircleAnswers A boards records edges m x (Err f)) (sym same) (p, l, so_far, against)
 
     -- ---- circles
     abbrev Circles : Moment M → ℕ → Moment M → Type 0
@@ -69,3 +71,45 @@ module _ {M : Type 0} (A : Algebra M) (law : Lawful A) (boards : ℕ) (records :
         let product : (j + 1) * boards ≡ j * boards + 1 * boards = add-mul j 1 boards in
         let more : suc j * boards ≡ (j + 1) * boards = ap (λ n. n * boards) (sym (add-one j)) in
         omega (arith, circles_turns m m₁ j before, circle.turns, product, more)
+
+    -- ---- what a circle and circles come to, where the memory keeps its length
+    none_left : (p : ℕ) (m : Moment M) (f : RunFault) → p < boards → turn_fault boards records p m ≡ Some f
+        → (turn_limit ≤ m.tally.turns) ⊎ (length m.copies < length records)
+    none_left p m f l some = elim (cases_lt m.tally.turns turn_limit) [
+      | inr late ↦ inl (omega arith)
+      | inl left ↦ elim (cases_lt (length m.copies) (length records)) [
+        | inl short ↦ inr short
+        | inr room ↦
+            let none = rw (lt-ltb p boards l, lt-ltb m.tally.turns turn_limit left, le-leb (length records) (length m.copies) (omega arith)) at some in
+            absurd (cc)
+      ]
+    ]
+
+    pub circle_told : (m m' : Moment M) (r : Result (Unit {0}) RunFault) → length m'.copies ≡ length m.copies
+        → CircleAnswers A boards records edges m m' r → Circled A boards records edges m m' r
+    circle_told m m' (Ok _) same turned = (turned.turns, turned.carried)
+    circle_told m m' (Err f) same (p, l, turned, some) = (
+      elim (none_left p m' f l some) [
+        | inl late ↦ inl (omega (arith, turned.turns))
+        | inr short ↦ inr (omega arith)
+      ],
+      λ s laid. (range_with_len 0 p, turned.carried s laid),
+    )
+
+    pub settle_told : (limit : ℕ) (m m' : Moment M) (r : Result Bool RunFault) → length m'.copies ≡ length m.copies
+        → SettleAnswers A boards records edges limit m m' r → Settles A boards records edges limit m m' r
+    settle_told limit m m' (Ok settled) same (decides, (k, few, all, rounds)) =
+        (decides, λ s laid. (k, few, all, circles_carry m m' k rounds s laid))
+    settle_told limit m m' (Err f) same (k, few, (m₁, rounds, un, (p, l, turned, some))) = (
+      elim (none_left p m' f l some) [
+        | inl late ↦
+            let most : (k + 1) * boards ≤ limit * boards = mul-le-mul_right boards (omega arith) in
+            inl (omega (arith, turned.turns, circles_turns m m₁ k rounds, most, add-mul k 1 boards))
+        | inr short ↦ inr (omega arith)
+      ],
+      λ s laid. (
+        circles boards k ++ range_with_len 0 p,
+        carried_further A law s m m₁ m' (circles boards k) (range_with_len 0 p)
+            (circles_carry m m₁ k rounds s laid) (turned.carried s laid),
+      ),
+    )

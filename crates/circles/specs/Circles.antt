@@ -1,5 +1,5 @@
 -- Circles of turns, each board once, ascending.
-use Rattle.std.specs.Prelude.{◌≡◌, ℕ, zero, suc, ◌+◌, ◌<◌, ◌≤◌, Bool, true, false, not, List, [], ◌++◌, Some, Ok, Err, Result, nat_lt}
+use Rattle.std.specs.Prelude.{◌≡◌, ℕ, zero, suc, ◌+◌, ◌*◌, ◌<◌, ◌≤◌, ◌⊎◌, Bool, true, false, not, List, [], ◌++◌, length, Some, Ok, Err, Result, nat_lt}
 use Rattle.std.specs.List.{range_with_len}
 use Rattle.element.specs.Algebra.{Algebra}
 use Rattle.plan.specs.Links.{shape}
@@ -7,6 +7,7 @@ use Rattle.plan.specs.declared.records.CopyRecord.{CopyRecord}
 use Rattle.plan.specs.declared.records.Edge.{Edge}
 use Rattle.scene.specs.Cells.{Scene}
 use Rattle.protocol.specs.Books.{lowest_unsettled}
+use Rattle.protocol.specs.Faults.{turn_limit}
 use Rattle.protocol.specs.Runs.{Moment, accepted_in}
 use Rattle.protocol.specs.declared.fault.RunFault.{RunFault}
 use Rattle.exchange.specs.Calls.{turn_fault}
@@ -16,6 +17,31 @@ use Rattle.exchange.specs.Going.{LaidPlan, Carried}
 abbrev pub circles : ℕ → ℕ → List ℕ
 circles boards zero = []
 circles boards (suc k) = circles boards k ++ range_with_len 0 boards
+
+-- one of the next n turns is refused: none is left for it, or the memory is too short for the copies
+abbrev pub RefusedWithin : {M : Type 0} → List CopyRecord → ℕ → Moment M → Type 0
+RefusedWithin copies n m = (turn_limit < m.tally.turns + n) ⊎ (length m.copies < length copies)
+
+-- one circle carries every run of the laid plan on; refused on the way, by the turns made till then
+abbrev pub Circled : {M : Type 0} → Algebra M → ℕ → List CopyRecord → List Edge → Moment M → Moment M
+    → Result (Unit {0}) RunFault → Type 0
+Circled A boards copies edges m m' (Ok _) =
+    (m'.tally.turns ≡ m.tally.turns + boards)
+    × ((s : Scene) → LaidPlan s boards copies edges → Carried A s m m' (range_with_len 0 boards))
+Circled A boards copies edges m m' (Err _) =
+    RefusedWithin copies boards m
+    × ((s : Scene) → LaidPlan s boards copies edges → (us : List ℕ) × Carried A s m m' us)
+
+-- circles until every board is settled, or as many as allowed; it says whether they are
+abbrev pub Settles : {M : Type 0} → Algebra M → ℕ → List CopyRecord → List Edge → ℕ → Moment M → Moment M
+    → Result Bool RunFault → Type 0
+Settles A boards copies edges limit m m' (Ok settled) =
+    (settled ≡ not (nat_lt (lowest_unsettled (shape boards edges) (accepted_in m'.links)) boards))
+    × ((s : Scene) → LaidPlan s boards copies edges
+    → (k : ℕ) × (k ≤ limit) × (settled ≡ false → k ≡ limit) × Carried A s m m' (circles boards k))
+Settles A boards copies edges limit m m' (Err _) =
+    RefusedWithin copies (limit * boards) m
+    × ((s : Scene) → LaidPlan s boards copies edges → (us : List ℕ) × Carried A s m m' us)
 
 -- some board is not settled, by the table
 abbrev pub unsettled : {M : Type 0} → ℕ → List Edge → Moment M → Bool
@@ -28,9 +54,9 @@ module _ {M : Type 0} (A : Algebra M) (boards : ℕ) (records : List CopyRecord)
     pub carried : (s : Scene) → LaidPlan s boards records edges → Carried A s m m' (range_with_len 0 k)
 
   -- one circle; or those below some board have turned, and its turn is refused
-  abbrev pub Circled : Moment M → Moment M → Result (Unit {0}) RunFault → Type 0
-  Circled m m' (Ok _) = TurnedBelow boards m m'
-  Circled m m' (Err f) =
+  abbrev pub CircleAnswers : Moment M → Moment M → Result (Unit {0}) RunFault → Type 0
+  CircleAnswers m m' (Ok _) = TurnedBelow boards m m'
+  CircleAnswers m m' (Err f) =
       (p : ℕ) × (p < boards) × TurnedBelow p m m' × (turn_fault boards records p m' ≡ Some f)
 
   -- circles, before each of which some board is not settled
@@ -40,10 +66,10 @@ module _ {M : Type 0} (A : Algebra M) (boards : ℕ) (records : List CopyRecord)
         → TurnedBelow boards m₁ m₂ → UnsettledCircles m (suc k) m₂
 
   -- circles until every board is settled, or as many as allowed; it says whether they are
-  abbrev pub Settles : ℕ → Moment M → Moment M → Result Bool RunFault → Type 0
-  Settles limit m m' (Ok settled) =
+  abbrev pub SettleAnswers : ℕ → Moment M → Moment M → Result Bool RunFault → Type 0
+  SettleAnswers limit m m' (Ok settled) =
       (settled ≡ not (unsettled boards edges m'))
       × ((k : ℕ) × (k ≤ limit) × (settled ≡ false → k ≡ limit) × UnsettledCircles m k m')
-  Settles limit m m' (Err f) =
+  SettleAnswers limit m m' (Err f) =
       (k : ℕ) × (k < limit) × ((m₁ : Moment M)
-      × UnsettledCircles m k m₁ × (unsettled boards edges m₁ ≡ true) × Circled m₁ m' (Err f))
+      × UnsettledCircles m k m₁ × (unsettled boards edges m₁ ≡ true) × CircleAnswers m₁ m' (Err f))

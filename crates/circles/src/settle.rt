@@ -1,5 +1,5 @@
 // Ascending circles, until every board is settled.
-ghost use Rattle.circles.specs.Circles.{Circled, Settles};
+ghost use Rattle.circles.specs.Circles.{CircleAnswers, Circled, SettleAnswers, Settles};
 ghost use Rattle.protocol.specs.Runs.{moment};
 
 use element::element::Element;
@@ -17,7 +17,12 @@ pub fn circle<E: Element, D: Medium>(
     medium: &mut D,
     copies: &mut [E],
 ) -> Result<(), RunFault>
-    ensures { Circled E.Element.algebra plan.now.boards plan.now.copies.now
+    ensures told { Circled E.Element.algebra plan.now.boards plan.now.copies.now
+        plan.now.edges.now (moment turning.old.tally table.old.links
+        copies.old (D.Medium.lanes medium.old))
+        (moment turning.new.tally table.new.links copies.new
+        (D.Medium.lanes medium.new)) result }
+    ensures exact { CircleAnswers E.Element.algebra plan.now.boards plan.now.copies.now
         plan.now.edges.now (moment turning.old.tally table.old.links
         copies.old (D.Medium.lanes medium.old))
         (moment turning.new.tally table.new.links copies.new
@@ -39,7 +44,12 @@ pub fn settle<E: Element, D: Medium>(
     copies: &mut [E],
     limit: usize,
 ) -> Result<bool, RunFault>
-    ensures { Settles E.Element.algebra plan.now.boards plan.now.copies.now
+    ensures told { Settles E.Element.algebra plan.now.boards plan.now.copies.now
+        plan.now.edges.now limit (moment turning.old.tally table.old.links
+        copies.old (D.Medium.lanes medium.old))
+        (moment turning.new.tally table.new.links copies.new
+        (D.Medium.lanes medium.new)) result }
+    ensures exact { SettleAnswers E.Element.algebra plan.now.boards plan.now.copies.now
         plan.now.edges.now limit (moment turning.old.tally table.old.links
         copies.old (D.Medium.lanes medium.old))
         (moment turning.new.tally table.new.links copies.new

@@ -2,3 +2,5 @@
 #![tactic(auto)]
 
 pub mod run;
+
+pub use protocol::fault;

@@ -28,5 +28,5 @@ abbrev pub copies_before : List CopyRecord → ℕ → ℕ
 copies_before copies p = length (filter (λ c. nat_lt c.board p) copies)
 
 -- of what goes along with the copies, in their order, the part of board p
-abbrev pub values_on : {X : Type 0} → List CopyRecord → List X → ℕ → List X
-values_on copies values p = take (length (copies_on copies p)) (drop (copies_before copies p) values)
+abbrev pub values_on : {M : Type 0} → List CopyRecord → List M → ℕ → List M
+values_on records values p = take (length (copies_on records p)) (drop (copies_before records p) values)

@@ -1,13 +1,13 @@
 // A run over a medium that keeps nothing: every board goes on waiting.
 use super::deaf::Deaf;
 use super::given::{NO_DEPTHS, plan, started};
-use circles::settle::settle;
+use cabinet::settle::settle;
 use element::depth::Depth;
+use exchange::fault::RunFault;
 use exchange::run::Turning;
 use listing::lines::board_line;
 use medium::queue::Queue;
 use plan::view::PlanView;
-use protocol::fault::RunFault;
 use protocol::table::LinkTable;
 use protocol::tally::{Report, Tally};
 use std::process::Abort;
@@ -20,20 +20,20 @@ fn both_await(
     plan: &PlanView,
     table: &LinkTable,
 ) -> Result<(), Fail> {
-    let first = turning.report::<Depth>(plan, table, 0);
+    let first = turning.report(plan, table, 0);
     assert!(rt; first == Ok(Report::Awaits { board: 1, items: 2 }));
-    let second = turning.report::<Depth>(plan, table, 1);
+    let second = turning.report(plan, table, 1);
     assert!(rt; second == Ok(Report::Awaits { board: 0, items: 2 }));
     let Ok(report) = second else {
         return Err(Fail::new("no report"));
     };
-    assert!(rt; board_line(1, report).bytes() == b"1 awaits 0\n");
+    assert!(rt; board_line(1, report).bytes() == b"1 awaits 0\n".as_slice());
     Ok(())
 }
 
 // The run does not end: its state comes back, and is given up. Answers its tally and why it did not end.
 fn given_up(turning: Turning, plan: &PlanView, table: &LinkTable) -> Option<(Tally, RunFault)> {
-    match turning.end::<Depth>(plan, table) {
+    match turning.end(plan, table) {
         Ok(done) => {
             let (ended, _) = done;
             ended.close();
@@ -85,8 +85,8 @@ fn board_1_alone_may_be_awaiting(rt: HostRuntime) -> Result<(), Fail> {
     // In its third turn board 0 has both items; board 1 is still to take what they came to.
     let _ = settle(&mut turning, &plan, &mut table, &mut medium, &mut values, 2);
     let _ = turning.turn(&plan, &mut table, &mut medium, &mut values, 0);
-    let first = turning.report::<Depth>(&plan, &table, 0);
-    let second = turning.report::<Depth>(&plan, &table, 1);
+    let first = turning.report(&plan, &table, 0);
+    let second = turning.report(&plan, &table, 1);
     let given_up = given_up(turning, &plan, &table);
     assert!(rt; first == Ok(Report::Settled));
     assert!(rt; second == Ok(Report::Awaits { board: 0, items: 2 }));

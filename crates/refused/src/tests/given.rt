@@ -1,12 +1,12 @@
 // The two triangles: their scene, their plan, and how a run of them starts.
 use element::depth::Depth;
+use exchange::fault::RunFault;
 use exchange::run::load::load;
 use exchange::run::{Loaded, Turning};
 use medium::frame::Frame;
 use medium::medium::Medium;
 use plan::records::{CopyRecord, Edge};
 use plan::view::PlanView;
-use protocol::fault::RunFault;
 use protocol::table::LinkTable;
 use scene::view::SceneView;
 use std::test::Fail;

@@ -2,15 +2,15 @@
 use super::given::SOME_FRAME;
 use medium::medium::Medium;
 use medium::queue::Queue;
-use medium::quota::{Limit, Quota};
+use medium::quota::{Limit, Quota, QuotaFault};
 use medium::script::Script;
 use std::test::Fail;
 
-// A refused limit's number and its last value.
-fn refused_limit(frames: usize) -> Option<(usize, usize)> {
+// The limit that is refused.
+fn refused_limit(frames: usize) -> Option<usize> {
     match Limit::new(frames) {
         Ok(_) => None,
-        Err(fault) => Some((fault.number(), fault.last())),
+        Err(QuotaFault::Limit { given }) => Some(given),
     }
 }
 
@@ -35,7 +35,7 @@ fn has_no_board_8<M: Medium>(medium: &mut M) -> bool {
 
 #[test]
 fn limits_of_0_and_65_are_refused(rt: HostRuntime) {
-    assert!(rt; refused_limit(0) == Some((16, 0)) && refused_limit(65) == Some((16, 65)));
+    assert!(rt; refused_limit(0) == Some(0) && refused_limit(65) == Some(65));
     assert!(rt; refused_limit(1) == None && refused_limit(64) == None);
 }
 

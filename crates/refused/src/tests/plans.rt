@@ -72,7 +72,7 @@ fn is_refused(
     rt: &impl Abort,
     found: Option<PlanFault>,
     fault: PlanFault,
-    number: usize,
+    number: u8,
     last: usize,
 ) -> Result<(), Fail> {
     let found = found.ok_or("the records are taken")?;

@@ -1,15 +1,15 @@
 // Calls of a run that are refused.
 use super::given::{NO_DEPTHS, SOME_FRAME, load_refusal, plan, refusal, scene, started};
-use circles::settle::settle;
+use cabinet::settle::settle;
 use element::depth::Depth;
 use element::tags::Tags;
-use exchange::run::drive::{finish, start_over};
+use exchange::fault::RunFault;
+use exchange::run::drive::{finish, start_anew};
 use exchange::run::load::load;
 use exchange::run::{Ended, Turning};
 use medium::medium::Medium;
 use medium::queue::Queue;
 use plan::view::PlanView;
-use protocol::fault::RunFault;
 use protocol::table::LinkTable;
 use std::process::Abort;
 use std::test::Fail;
@@ -69,7 +69,7 @@ fn refuses(
     let mut few = [Depth { value: 3 }; 5];
     let stranger = turning.turn(plan, table, &mut medium, &mut few, 2);
     assert!(rt; refusal(stranger) == (13, 2));
-    assert!(rt; refusal(turning.report::<Depth>(plan, table, 2)) == (13, 2));
+    assert!(rt; refusal(turning.report(plan, table, 2)) == (13, 2));
     let short = turning.turn(plan, table, &mut medium, &mut few, 0);
     assert!(rt; refusal(short) == (11, 6));
     assert!(rt; few == [Depth { value: 3 }; 5] && turning.tally().turns == 0);
@@ -91,7 +91,7 @@ fn shows(rt: &impl Abort, ended: &Ended, plan: &PlanView, values: &[Depth; 6]) -
     let Ok(shown) = ended.show(plan, values, 1) else {
         return Err(Fail::new("board 1 shows nothing"));
     };
-    assert!(rt; shown == &[Depth { value: 7 }, Depth { value: 6 }, Depth { value: 9 }]);
+    assert!(rt; shown == [Depth { value: 7 }, Depth { value: 6 }, Depth { value: 9 }].as_slice());
     assert!(rt; refusal(ended.show(plan, values, 2)) == (13, 2));
     assert!(rt; refusal(ended.show(plan, &values[0..5], 2)) == (11, 6));
     Ok(())
@@ -105,7 +105,7 @@ fn showing_is_refused(rt: HostRuntime) -> Result<(), Fail> {
     let mut values = NO_DEPTHS;
     let mut turning = started(&plan, &mut table, &medium, &mut values)?;
     let _ = settle(&mut turning, &plan, &mut table, &mut medium, &mut values, 9);
-    match turning.end::<Depth>(&plan, &table) {
+    match turning.end(&plan, &table) {
         Ok(done) => {
             let (ended, _) = done;
             let seen = shows(&rt, &ended, &plan, &values);
@@ -127,7 +127,7 @@ fn a_run_that_starts_over_ends_with_the_totals(rt: HostRuntime) -> Result<(), Fa
     let mut worn = Queue::new();
     let mut fresh = Queue::new();
     let mut values = NO_DEPTHS;
-    let mut turning = match start_over(
+    let mut turning = match start_anew(
         &scene(),
         &plan,
         &mut table,
@@ -142,7 +142,7 @@ fn a_run_that_starts_over_ends_with_the_totals(rt: HostRuntime) -> Result<(), Fa
     let Ok(shown) = finish(turning, &plan, &table, &values, 1) else {
         return Err(Fail::new("board 1 shows nothing"));
     };
-    assert!(rt; shown == &[Depth { value: 7 }, Depth { value: 6 }, Depth { value: 9 }]);
+    assert!(rt; shown == [Depth { value: 7 }, Depth { value: 6 }, Depth { value: 9 }].as_slice());
     Ok(())
 }
 

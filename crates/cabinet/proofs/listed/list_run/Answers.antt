@@ -34,7 +34,7 @@ returns g c =
     IfOk-weaker c.list_turned.result _ _ (λ page e. record {
       fresh = λ _. run_listed A g.met.E.Element.lawful s m m' (vec_items page) (begun.promise c.requires.laid)
           c.settle.result plan.boards records edges c.requires.laid (
-            c.settle.ensures,
+            c.settle.ensures.exact,
             omega (arith, c.settle.auto.copies, c.begin.auto.copies, c.requires.room),
             e ∙ ap (λ k. head_page k m'.tally
                 ++ boards_page A (reports plan.boards edges m'.links) records m'.copies plan.boards) same,
