@@ -1,5 +1,5 @@
 -- Turns of the boards in ascending order, and circles of them.
-use Rattle.std.proofs.Common.{◌≡◌, ℕ, zero, suc, ◌+◌, ◌*◌, ◌<◌, ◌≤◌, Bool, true, false, not, List, [], ◌∷◌, ◌++◌, ◌⊎◌, length, Some, Ok, Err, Result, sym, refl, ap, ◌∙◌, subst, inl, inr, mul-le-mul_right, add-mul, add-one, arith}
+use Rattle.std.proofs.Common.{◌≡◌, ℕ, suc, ◌+◌, ◌*◌, ◌<◌, ◌≤◌, Bool, true, false, not, List, [], ◌∷◌, ◌++◌, ◌⊎◌, length, Some, Ok, Err, Result, sym, refl, ap, ◌∙◌, subst, inl, inr, mul-le-mul_right, add-mul, add-one, arith}
 use Rattle.std.proofs.lemmas.Bool.{cases_lt, lt-ltb, le-leb}
 use Rattle.std.specs.List.{range_with_len}
 use Rattle.element.specs.Algebra.{Algebra, Lawful}
@@ -14,8 +14,8 @@ use Rattle.protocol.specs.declared.tally.TurnCounts.{TurnCounts}
 use Rattle.protocol.specs.declared.fault.RunFault.{RunFault}
 use Rattle.exchange.specs.Calls.{TurnAnswers, turn_fault}
 use Rattle.exchange.specs.Going.{LaidPlan, Carried, Goes_on}
-use Rattle.exchange.proofs.Promises.{carried_nowhere, carried_on, carried_further, carried_still}
-use Rattle.circles.specs.Circles.{circles, unsettled, TurnedBelow, CircleAnswers, Circled, SettleAnswers, Settles, UnsettledCircles, none, one_more}
+use Rattle.exchange.proofs.Promises.{carried_nowhere, carried_on, carried_further}
+use Rattle.circles.specs.Circles.{circles, TurnedBelow, CircleAnswers, Circled, SettleAnswers, Settles, UnsettledCircles, none, one_more}
 
 pub unsettled_from : (b : Bool) → not b ≡ false → b ≡ true
 unsettled_from true e = refl

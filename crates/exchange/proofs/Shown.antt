@@ -1,5 +1,5 @@
 -- What reports, an end and what is shown say of a run: they follow the book, and shown copies are totals.
-use Rattle.std.proofs.Common.{◌≡◌, ℕ, zero, suc, ◌+◌, ◌<◌, ◌≤◌, Bool, true, false, cond, not, nat_lt, Ok, Err, List, map, length, get_or, take, drop, sym, refl, ap, ◌∙◌, subst, ap₂, inl, inr, arith}
+use Rattle.std.proofs.Common.{◌≡◌, ℕ, ◌+◌, ◌<◌, ◌≤◌, true, false, cond, not, nat_lt, Ok, Err, List, map, length, get_or, take, drop, sym, refl, ap, ◌∙◌, subst, ap₂, inl, inr, arith}
 use Rattle.std.proofs.ByRecursion.{All-get_or}
 use Rattle.std.proofs.lemmas.List.{ext_get_or, length-take, length-drop, length-map, get_or-take, get_or-drop, get_or-map, take_all}
 use Rattle.std.proofs.lemmas.Bool.{cases_Bool, both_ways, cases_lt, lt-ltb, le-ltb}
@@ -12,7 +12,7 @@ use Rattle.plan.specs.Starts.{copies_on, copies_before, values_on}
 use Rattle.plan.specs.declared.records.CopyRecord.{CopyRecord}
 use Rattle.plan.specs.declared.records.Edge.{Edge}
 use Rattle.plan.proofs.Plans.{board_part, board_part_within, copies_below}
-use Rattle.forest.specs.Forest.{laid_copies, laid_edges, lowest}
+use Rattle.forest.specs.Forest.{laid_copies}
 use Rattle.forest.proofs.Lowest.{lowest_first, lowest_same}
 use Rattle.protocol.specs.Books.{Book, HasAll, is_settled, report_by, lowest_unsettled}
 use Rattle.protocol.specs.Promise.{Promise}

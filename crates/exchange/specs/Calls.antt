@@ -1,5 +1,5 @@
 -- What the calls of a run answer, and what they leave.
-use Rattle.std.specs.Prelude.{◌≡◌, ℕ, ◌/◌, ◌%◌, ◌<◌, Bool, cond, List, [], length, Some, None, Ok, Err, Option, Result, nat_le, nat_lt}
+use Rattle.std.specs.Prelude.{◌≡◌, ℕ, ◌/◌, ◌%◌, ◌<◌, cond, List, [], length, Some, None, Ok, Err, Option, Result, nat_le, nat_lt}
 use Rattle.std.specs.Borrow.{Bor}
 use Rattle.element.specs.Algebra.{Algebra}
 use Rattle.medium.specs.Lanes.{Lanes}
@@ -8,8 +8,6 @@ use Rattle.plan.specs.Starts.{values_on}
 use Rattle.plan.specs.declared.records.CopyRecord.{CopyRecord}
 use Rattle.plan.specs.declared.records.Edge.{Edge}
 use Rattle.protocol.specs.Runs.{Moment, Turn, seen, counts}
-use Rattle.protocol.specs.declared.table.Link.{Link}
-use Rattle.protocol.specs.declared.tally.Tally.{Tally}
 use Rattle.protocol.specs.declared.tally.TurnCounts.{TurnCounts}
 use Rattle.protocol.specs.declared.fault.RunFault.{RunFault}
 use Rattle.protocol.specs.declared.fault.RunFault.TheVariants.{Short, Waiting, Board, Turns}

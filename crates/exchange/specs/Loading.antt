@@ -1,5 +1,5 @@
 -- Loading: each copy is set to its board's own sum.
-use Rattle.std.specs.Prelude.{◌≡◌, ℕ, Bool, cond, List, ◌++◌, length, drop, Some, None, Ok, Err, Option, Result, ◌==◌, nat_le}
+use Rattle.std.specs.Prelude.{◌≡◌, cond, List, ◌++◌, length, drop, Some, None, Ok, Err, Option, Result, ◌==◌, nat_le}
 use Rattle.element.specs.Algebra.{Algebra}
 use Rattle.scene.specs.Cells.{Scene}
 use Rattle.plan.specs.declared.records.CopyRecord.{CopyRecord}

@@ -1,5 +1,5 @@
 -- Which copies a turn leaves alone: those that no item of it names, and all where no frame waits.
-use Rattle.std.proofs.Common.{◌≡◌, ℕ, zero, suc, ◌-◌, ◌<◌, ◌≤◌, true, ◌≢◌, List, [], ◌∷◌, length, get_or, sym, refl, ap, ◌∙◌, inl, inr, arith}
+use Rattle.std.proofs.Common.{◌≡◌, ℕ, zero, suc, ◌-◌, ◌<◌, true, ◌≢◌, List, [], ◌∷◌, length, get_or, refl, ap, ◌∙◌, inl, inr, arith}
 use Rattle.std.proofs.lemmas.List.{ext_get_or}
 use Rattle.std.proofs.lemmas.Bool.{cases_eq, eq-eqb, ne_eqb, cases_lt, cases_Bool, lt-ltb, le-ltb}
 use Rattle.element.specs.Algebra.{Algebra}
@@ -12,7 +12,7 @@ use Rattle.plan.specs.declared.records.CopyRecord.{CopyRecord}
 use Rattle.plan.specs.declared.records.Edge.{Edge}
 use Rattle.plan.proofs.Plans.{between_at}
 use Rattle.protocol.specs.Frames.{brings, words_of}
-use Rattle.protocol.specs.Turns.{State, Turned, accept, takes, takes_all}
+use Rattle.protocol.specs.Turns.{Turned, accept, takes, takes_all}
 use Rattle.protocol.specs.Runs.{Moment, seen}
 use Rattle.protocol.proofs.Bits.{brings_below}
 

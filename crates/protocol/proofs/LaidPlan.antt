@@ -10,7 +10,7 @@ use Rattle.element.proofs.Joins.{join_below_same}
 use Rattle.scene.specs.Cells.{Scene, Sound}
 use Rattle.scene.specs.Sums.{own_sum, undivided}
 use Rattle.plan.specs.declared.records.Edge.{Edge}
-use Rattle.plan.specs.Links.{no_edge, shape, edges_between}
+use Rattle.plan.specs.Links.{no_edge, edges_between}
 use Rattle.forest.specs.Forest.{owner, edge_to, edges_to, laid_copies, laid_edges}
 use Rattle.forest.proofs.Members.{among_at}
 use Rattle.forest.proofs.Filters.{counting_next}

@@ -1,11 +1,9 @@
 -- What taking all lanes of a board amounts to: the counts, copies and lanes that a turn's rules ask for.
-use Rattle.std.proofs.Common.{◌≡◌, ℕ, zero, suc, ◌+◌, ◌-◌, ◌*◌, ◌<◌, ◌≤◌, Bool, true, false, cond, ◌&&◌, eqb, ltb, ◌≢◌, ◌⊎◌, List, [], ◌∷◌, length, get_or, set, sym, refl, ap, ◌∙◌, inl, inr, add_comm, arith}
-use mathlib.Core.Path.{fun_ext}
+use Rattle.std.proofs.Common.{◌≡◌, ℕ, zero, suc, ◌+◌, ◌-◌, ◌*◌, ◌<◌, ◌≤◌, true, false, ◌≢◌, ◌⊎◌, List, [], length, get_or, sym, refl, ap, ◌∙◌, inl, inr, add_comm, arith}
 use Rattle.std.proofs.lemmas.List.{get_or-set_same, get_or-set_other, length-set}
-use Rattle.std.proofs.lemmas.Bool.{cases_Bool, cases_eq, cases_lt, eq-eqb, ne_eqb, lt-ltb, le-ltb}
+use Rattle.std.proofs.lemmas.Bool.{cases_eq, cases_lt, eq-eqb, ne_eqb, lt-ltb, le-ltb}
 use Rattle.element.specs.Algebra.{Algebra}
-use Rattle.medium.specs.Lanes.{Lanes, is_lane, same_lane}
-use Rattle.medium.specs.declared.frame.Frame.{Frame}
+use Rattle.medium.specs.Lanes.{is_lane}
 use Rattle.plan.specs.Links.{Shape, shape, items, edges_between}
 use Rattle.plan.specs.declared.records.Edge.{Edge}
 use Rattle.protocol.specs.declared.table.Link.{Link}

@@ -1,18 +1,18 @@
 -- What taking the frames of one lane amounts to, in counts and copies.
-use Rattle.std.proofs.Common.{◌≡◌, ℕ, suc, ◌+◌, ◌-◌, ◌*◌, ◌<◌, ◌≤◌, Bool, true, false, cond, ◌&&◌, eqb, ltb, ◌≢◌, ◌⊎◌, List, [], ◌∷◌, length, get_or, set, sym, refl, ap, ◌∙◌, inl, inr, arith}
+use Rattle.std.proofs.Common.{◌≡◌, ℕ, suc, ◌+◌, ◌-◌, ◌*◌, ◌<◌, Bool, true, cond, ltb, ◌≢◌, List, [], ◌∷◌, length, get_or, set, sym, refl, ap, ◌∙◌, inl, inr, arith}
 use mathlib.Core.Path.{fun_ext}
 use Rattle.std.proofs.lemmas.List.{get_or-set_same, get_or-set_other, length-set}
 use Rattle.std.proofs.lemmas.Bool.{cases_Bool, cases_eq, cases_lt, eq-eqb, ne_eqb, lt-ltb, le-ltb, ltb-true, and_parts}
 use Rattle.element.specs.Algebra.{Algebra}
 use Rattle.element.specs.declared.words.Words.{Words}
 use Rattle.medium.specs.declared.frame.Frame.{Frame}
-use Rattle.plan.specs.Links.{Shape, shape, items, edges_between, no_edge}
+use Rattle.plan.specs.Links.{Shape, shape, edges_between}
 use Rattle.plan.specs.declared.records.Edge.{Edge}
 use Rattle.protocol.specs.declared.table.Link.{Link}
-use Rattle.protocol.specs.Frames.{brings, tells_of, words_of, scan, acts, has_bit}
+use Rattle.protocol.specs.Frames.{brings, tells_of, words_of, scan}
 use Rattle.protocol.specs.Turns.{write, accept, takes}
 use Rattle.protocol.specs.Runs.{no_link}
-use Rattle.protocol.specs.Steps.{Fit, Held, held, told, grown, advanced, accepted_copies, frame_step, frames_step}
+use Rattle.protocol.specs.Steps.{Fit, Held, told, grown, advanced, accepted_copies, frame_step, frames_step}
 
 -- copies by number
 abbrev pub view : {M : Type 0} → Algebra M → List M → ℕ → M

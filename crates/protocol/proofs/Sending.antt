@@ -1,13 +1,11 @@
 -- What a board's puts amount to.
-use Rattle.std.proofs.Common.{◌≡◌, ℕ, zero, suc, ◌+◌, ◌-◌, ◌*◌, ◌<◌, ◌≤◌, Bool, true, false, cond, ◌&&◌, ◌||◌, eqb, ltb, ◌≢◌, ◌⊎◌, List, [], ◌∷◌, ◌++◌, length, get_or, replicate, sym, refl, ap, ◌∙◌, inl, inr, add-zero, add-one, arith}
-use mathlib.Core.Path.{fun_ext}
+use Rattle.std.proofs.Common.{◌≡◌, ℕ, suc, ◌+◌, ◌-◌, ◌<◌, ◌≤◌, Bool, true, false, cond, ◌&&◌, eqb, ◌≢◌, ◌⊎◌, List, ◌++◌, length, replicate, sym, refl, ap, ◌∙◌, inl, inr, add-zero, add-one, arith}
 use mir.Val.{bool_byte}
 use Rattle.std.proofs.lemmas.List.{length-append, length-replicate}
-use Rattle.std.proofs.lemmas.Bool.{cases_Bool, cases_eq, eq-eqb, ne_eqb, both_ways, cond-true}
+use Rattle.std.proofs.lemmas.Bool.{cases_eq, eq-eqb, ne_eqb, both_ways, cond-true}
 use Rattle.medium.specs.Lanes.{Lanes, appended, same_lane}
 use Rattle.medium.specs.declared.frame.Frame.{Frame}
 use Rattle.protocol.specs.Steps.{Spoken, Sent}
-use Rattle.protocol.specs.Turns.{sum_others}
 use Rattle.protocol.proofs.Lanes.{same_lane_self, byte_at_most_one}
 use Rattle.protocol.proofs.Received.{sum_others_same}
 

@@ -1,17 +1,14 @@
 -- Receiving, then sending, is a turn.
-use Rattle.std.proofs.Common.{◌≡◌, ℕ, ◌+◌, ◌-◌, ◌*◌, ◌<◌, ◌≤◌, Bool, true, false, cond, ◌&&◌, ◌||◌, eqb, ◌≢◌, ◌⊎◌, List, [], ◌∷◌, ◌++◌, length, get_or, replicate, sym, refl, ap, ◌∙◌, subst, ap₂, inl, inr, arith}
+use Rattle.std.proofs.Common.{◌≡◌, ℕ, ◌-◌, ◌<◌, Bool, cond, ◌&&◌, ◌||◌, eqb, ◌≢◌, List, ◌++◌, length, replicate, sym, ap, ◌∙◌, ap₂, inl, inr, arith}
 use Rattle.std.proofs.lemmas.Bool.{cases_eq}
 use Rattle.element.specs.Algebra.{Algebra}
 use Rattle.medium.specs.Lanes.{Lanes}
-use Rattle.medium.specs.declared.frame.Frame.{Frame}
-use Rattle.plan.specs.Links.{Shape, shape, items, edges_between}
+use Rattle.plan.specs.Links.{Shape, shape}
 use Rattle.plan.specs.declared.records.Edge.{Edge}
 use Rattle.protocol.specs.declared.table.Link.{Link}
 use Rattle.protocol.specs.declared.tally.Tally.{Tally}
-use Rattle.protocol.specs.declared.tally.TurnCounts.{TurnCounts}
-use Rattle.protocol.specs.Frames.{some_item}
-use Rattle.protocol.specs.Turns.{State, Turned, gathered, wants, puts, frame, left, lost, sum_others}
-use Rattle.protocol.specs.Runs.{Moment, link_at, accepted_in, seen, counts}
+use Rattle.protocol.specs.Turns.{Turned, wants, puts, left}
+use Rattle.protocol.specs.Runs.{Moment, seen, counts}
 use Rattle.protocol.specs.Steps.{Received, Sent, received, due, due_frame}
 use Rattle.protocol.proofs.Received.{Below, sum_others_same}
 

@@ -1,12 +1,10 @@
 -- One turn: its counts, what it puts, and which copies it writes.
-use Rattle.std.proofs.Common.{◌≡◌, ℕ, zero, suc, ◌-◌, ◌<◌, ◌≤◌, true, ltb, ◌≢◌, ◌⊎◌, List, [], ◌∷◌, refl, ap, ◌∙◌, inl, inr, arith}
-use Rattle.std.proofs.lemmas.Bool.{cases_eq, eq-eqb, ne_eqb, cases_lt, cases_Bool, lt-ltb, le-ltb, ltb-true, and_parts, and_from, or_cases, or_left, or_right}
+use Rattle.std.proofs.Common.{◌≡◌, ℕ, ◌<◌, ◌≤◌, true, ltb, ◌≢◌, ◌⊎◌, ap, ◌∙◌, inl, inr, arith}
+use Rattle.std.proofs.lemmas.Bool.{cases_eq, eq-eqb, cases_lt, lt-ltb, ltb-true, and_parts, and_from, or_cases, or_left, or_right}
 use Rattle.element.specs.Algebra.{Algebra}
-use Rattle.element.specs.declared.words.Words.{Words}
-use Rattle.medium.specs.declared.frame.Frame.{Frame}
 use Rattle.plan.specs.Links.{Shape, items}
-use Rattle.protocol.specs.Frames.{brings, tells_of, words_of}
-use Rattle.protocol.specs.Turns.{State, Turned, accept, takes, takes_all, wants, puts, left, lost}
+use Rattle.protocol.specs.Frames.{brings, tells_of}
+use Rattle.protocol.specs.Turns.{State, Turned, takes_all, wants, puts, left, lost}
 use Rattle.protocol.proofs.Plan.{Plan}
 use Rattle.protocol.proofs.Rows.{scan_grows}
 use Rattle.protocol.proofs.Elsewhere.{not_written}

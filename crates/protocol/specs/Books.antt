@@ -1,6 +1,6 @@
 -- The book: a count for each link, fed from the lanes alone; what a board lacks by such counts, and what a report
 -- says.
-use Rattle.std.specs.Prelude.{ℕ, ◌-◌, ◌<◌, ◌≤◌, Bool, true, false, cond, not, ◌&&◌, ltb, List, ◌==◌, nat_lt}
+use Rattle.std.specs.Prelude.{ℕ, ◌-◌, ◌<◌, ◌≤◌, Bool, true, false, cond, not, ◌&&◌, ltb, ◌==◌, nat_lt}
 use Rattle.medium.specs.Lanes.{Lanes}
 use Rattle.plan.specs.Links.{Shape, items}
 use Rattle.forest.specs.Forest.{lowest}

@@ -1,12 +1,11 @@
 -- The promise over every run: what boards hold, what reports say, and how soon all are settled.
 use Rattle.std.specs.Prelude.{◌≡◌, ℕ, ◌+◌, ◌*◌, ◌<◌, ◌≤◌, ◌⊎◌, List, [], ◌∷◌, ◌++◌, length, get_or, slice_index_or}
 use Rattle.std.specs.List.{AllByRecursion as All}
-use Rattle.element.specs.Algebra.{Algebra, Lawful}
+use Rattle.element.specs.Algebra.{Algebra}
 use Rattle.scene.specs.Cells.{Scene, Sound}
 use Rattle.scene.specs.Sums.{own_sum, undivided}
 use Rattle.plan.specs.Links.{no_copy, no_edge}
 use Rattle.forest.specs.Forest.{laid_copies, laid_edges}
-use Rattle.protocol.specs.declared.tally.Report.{Report}
 use Rattle.protocol.specs.declared.tally.Report.TheVariants.{Settled}
 use Rattle.protocol.specs.Books.{Book, HasAll, report_by}
 use Rattle.protocol.specs.Runs.{Moment, accepted_in, laid, Run}

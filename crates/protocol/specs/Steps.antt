@@ -1,6 +1,6 @@
 -- The steps that a turn's code makes, one frame, one lane, one board at a time; proofs/Receiving and proofs/Sending
 -- show that together they are a turn.
-use Rattle.std.specs.Prelude.{◌≡◌, ℕ, zero, suc, ◌+◌, ◌-◌, ◌*◌, ◌<◌, ◌≤◌, Bool, true, false, cond, ◌&&◌, ◌||◌, ◌≢◌, ◌⊎◌, List, [], ◌∷◌, ◌++◌, length, get_or, replicate, Some, None, ◌==◌, nat_lt, slice_index_or, slice_set}
+use Rattle.std.specs.Prelude.{◌≡◌, ℕ, zero, suc, ◌+◌, ◌-◌, ◌*◌, ◌<◌, ◌≤◌, Bool, false, cond, ◌&&◌, ◌||◌, ◌≢◌, ◌⊎◌, List, [], ◌∷◌, ◌++◌, length, get_or, replicate, Some, None, ◌==◌, nat_lt, slice_index_or, slice_set}
 use Rattle.element.specs.Algebra.{Algebra}
 use Rattle.element.specs.declared.words.Words.{Words}
 use Rattle.medium.specs.Lanes.{Lanes, same_lane}
@@ -8,7 +8,7 @@ use Rattle.medium.specs.declared.frame.Frame.{Frame}
 use Rattle.plan.specs.Links.{shape, no_edge, edges_between}
 use Rattle.plan.specs.declared.records.Edge.{Edge}
 use Rattle.protocol.specs.declared.table.Link.{Link}
-use Rattle.protocol.specs.Frames.{odd, brings, tells_of, words_of, present, some_item}
+use Rattle.protocol.specs.Frames.{odd, brings, tells_of, words_of, some_item}
 use Rattle.protocol.specs.Turns.{gathered, sum_others}
 use Rattle.protocol.specs.Runs.{no_link, link_at, accepted_in}
 

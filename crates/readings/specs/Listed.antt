@@ -1,5 +1,5 @@
 -- The listing of a run: the plan's line and the tally's, then each board's report and its copies.
-use Rattle.std.specs.Prelude.{ℕ, List, [], ◌∷◌, ◌++◌, length, codes, filter, nat_eq, slice_index_or}
+use Rattle.std.specs.Prelude.{ℕ, List, ◌++◌, length, codes, filter, nat_eq, slice_index_or}
 use Prim.Native.String.{String}
 use Rattle.std.specs.List.{range_with_len, flat_map}
 use Rattle.element.specs.Algebra.{Algebra}

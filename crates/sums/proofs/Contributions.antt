@@ -1,10 +1,10 @@
 -- Contributions at a vertex, one cell and one corner after the other.
-use Rattle.std.proofs.Common.{◌≡◌, ℕ, zero, suc, ◌+◌, ◌<◌, Bool, true, false, cond, ◌&&◌, eqb, List, [], ◌∷◌, ◌++◌, map, length, get_or, take, sym, refl, ap, ◌∙◌, inl, inr, add-one, arith}
-use Rattle.std.proofs.lemmas.List.{append-nil, append_assoc, take_all, take_more}
+use Rattle.std.proofs.Common.{◌≡◌, ℕ, zero, suc, ◌+◌, ◌<◌, Bool, true, false, cond, ◌&&◌, eqb, List, [], ◌∷◌, ◌++◌, length, get_or, take, sym, refl, ap, ◌∙◌, inl, inr, add-one, arith}
+use Rattle.std.proofs.lemmas.List.{append-nil, append_assoc, take_all}
 use Rattle.std.proofs.lemmas.Bool.{cases_Bool, cases_eq, eq-eqb, ne_eqb, and_from, and_left, and_right}
 use Rattle.element.specs.declared.words.Words.{Words}
 use Rattle.scene.specs.Cells.{Cell}
-use Rattle.scene.specs.Read.{no_cell, no_words}
+use Rattle.scene.specs.Read.{no_words}
 use Rattle.scene.specs.Sums.{at_vertex, contributions}
 use Rattle.sums.specs.Sums.{first_corners}
 

@@ -1,5 +1,5 @@
 -- Receiving and sending, as the code's contracts say them, are a turn.
-use Rattle.std.proofs.Common.{◌≡◌, ℕ, ◌<◌, ◌≤◌, Bool, true, false, ltb, leb, List, length, Some, None, Ok, Option, sym, ap, ◌∙◌, subst, inl, inr, arith}
+use Rattle.std.proofs.Common.{◌≡◌, ℕ, ◌<◌, ◌≤◌, Bool, true, ltb, leb, List, length, None, Ok, sym, subst, inl, inr, arith}
 use Rattle.std.proofs.lemmas.Bool.{cases_Bool, leb-true, ltb-true}
 use Rattle.element.specs.Algebra.{Algebra}
 use Rattle.medium.specs.Lanes.{Lanes}
@@ -8,12 +8,11 @@ use Rattle.plan.specs.Sound.{sound_plan}
 use Rattle.plan.specs.declared.records.CopyRecord.{CopyRecord}
 use Rattle.plan.specs.declared.records.Edge.{Edge}
 use Rattle.plan.proofs.Plans.{boards_within}
-use Rattle.protocol.specs.declared.fault.RunFault.{RunFault}
 use Rattle.protocol.specs.declared.table.Link.{Link}
 use Rattle.protocol.specs.declared.tally.TurnCounts.{TurnCounts}
 use Rattle.protocol.specs.Turns.{Turned}
 use Rattle.protocol.specs.Runs.{Moment, moment, no_tally, seen, counts}
-use Rattle.protocol.specs.Steps.{Received, Sent, received, lanes_step, due, due_frame}
+use Rattle.protocol.specs.Steps.{Sent, received, lanes_step, due, due_frame}
 use Rattle.protocol.proofs.Elsewhere.{other_copies_stay, copies_stay_without_frames}
 use Rattle.protocol.proofs.Fitting.{links_fit}
 use Rattle.protocol.proofs.Received.{Below, received_below}

@@ -1,5 +1,5 @@
 -- A laid plan is not refused.
-use Rattle.std.proofs.Common.{◌≡◌, Bool, true, false, sym, refl, ap, ◌∙◌}
+use Rattle.std.proofs.Common.{sym, ap, ◌∙◌}
 use Rattle.std.proofs.lemmas.Bool.{both_ways}
 use Rattle.plan.specs.Sound.{sound_plan}
 use Rattle.scene.specs.Views.{viewed}

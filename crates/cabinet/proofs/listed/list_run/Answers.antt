@@ -1,5 +1,5 @@
 -- What is listed is where the circles led to.
-use Rattle.std.proofs.Common.{◌≡◌, List, ◌++◌, length, vec_items, ap, ◌∙◌, arith}
+use Rattle.std.proofs.Common.{◌++◌, length, vec_items, ap, ◌∙◌, arith}
 use Rattle.std.proofs.lemmas.Result.{IfOk-weaker}
 use Rattle.scene.specs.Views.{viewed}
 use Rattle.protocol.specs.Runs.{moment}

@@ -1,7 +1,6 @@
 -- One board more.
 use Rattle.std.proofs.Common.{vec_items, sym, append-nil}
 use Rattle.protocol.specs.declared.tally.Report.TheVariants.{Settled}
-use Rattle.cabinet.specs.Pages.{boards_page}
 use Rattle.cabinet.proofs.Pages.{next_board_added}
 use Rattle.cabinet.proofs.listed.list_settled.Goals as goal
 

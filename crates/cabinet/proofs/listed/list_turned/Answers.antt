@@ -1,5 +1,5 @@
 -- An ended run is one whose boards are all reported settled.
-use Rattle.std.proofs.Common.{◌≡◌, ◌≤◌, List, ◌++◌, sym, ap, ◌∙◌, ap₂, arith}
+use Rattle.std.proofs.Common.{◌≤◌, ◌++◌, sym, ap, ◌∙◌, ap₂, arith}
 use Rattle.std.proofs.lemmas.Result.{IfOk-weaker}
 use Rattle.plan.specs.Links.{shape}
 use Rattle.protocol.specs.Books.{lowest_unsettled}

@@ -1,6 +1,6 @@
 -- One board more.
 use Rattle.std.proofs.Common.{vec_items, sym, append-nil}
-use Rattle.cabinet.specs.Pages.{boards_page, reports}
+use Rattle.cabinet.specs.Pages.{reports}
 use Rattle.cabinet.proofs.Pages.{next_board_added}
 use Rattle.cabinet.proofs.listed.list_unsettled.Goals as goal
 

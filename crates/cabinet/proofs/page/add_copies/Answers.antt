@@ -1,5 +1,5 @@
 -- One line more.
-use Rattle.std.proofs.Common.{List, ◌++◌, take, vec_items}
+use Rattle.std.proofs.Common.{◌++◌, vec_items}
 use Rattle.std.specs.Iterator.Adapters.{zip_first, zip_second}
 use Rattle.std.specs.Slice.Iter.{iter_rest}
 use Rattle.std.proofs.lemmas.Slice.Zip.{Zip-more, either_empty_from_Zip}

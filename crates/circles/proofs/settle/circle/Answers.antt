@@ -1,5 +1,5 @@
 -- One board more.
-use Rattle.std.proofs.Common.{◌∙◌, Ok, refl, arith, rules}
+use Rattle.std.proofs.Common.{◌∙◌, Ok, arith, rules}
 use Rattle.std.proofs.lemmas.Result.{err_from_is_err_and}
 use Rattle.protocol.specs.Runs.{moment}
 use Rattle.circles.proofs.Turns.{no_board_turned, next_board_turned, next_board_refused, circle_told}

@@ -1,5 +1,5 @@
 -- One circle more.
-use Rattle.std.proofs.Common.{ℕ, true, not, Ok, sym, ◌∙◌, subst, add-one, rules}
+use Rattle.std.proofs.Common.{ℕ, true, Ok, sym, ◌∙◌, subst, add-one, rules}
 use Rattle.protocol.specs.Runs.{moment}
 use Rattle.circles.specs.Circles.{UnsettledCircles, none, one_more}
 use Rattle.circles.proofs.Turns.{unsettled_from, settle_told}

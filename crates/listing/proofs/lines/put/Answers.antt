@@ -1,5 +1,5 @@
 -- A number has 20 digits at most.
-use Rattle.std.proofs.Common.{◌≡◌, ℕ, ◌^◌, ◌<◌, ◌≤◌, ◌++◌, length, decimal, ap, ◌∙◌, arith, lit<, rules}
+use Rattle.std.proofs.Common.{ℕ, ◌^◌, ◌<◌, ◌≤◌, ◌++◌, length, decimal, ap, ◌∙◌, arith, lit<, rules}
 use Rattle.std.proofs.lemmas.Fmt.{length-decimal-le}
 use Rattle.std.proofs.lemmas.List.{append_assoc}
 use Rattle.listing.specs.Held.{held}

@@ -1,5 +1,5 @@
 -- Corner by corner.
-use Rattle.std.proofs.Common.{◌≡◌, ◌<◌, length, get_or, take, sym, ◌∙◌, arith}
+use Rattle.std.proofs.Common.{◌≡◌, ◌<◌, length, get_or, take, arith}
 use Rattle.std.proofs.ByRecursion.{All-get_or}
 use Rattle.scene.specs.Read.{no_cell}
 use Rattle.scene.specs.Views.{viewed}

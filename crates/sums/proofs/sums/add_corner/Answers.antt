@@ -1,5 +1,5 @@
 -- The cell's board and the corner's vertex lie in the table.
-use Rattle.std.proofs.Common.{sym, ◌∙◌}
+use Rattle.std.proofs.Common.{sym}
 use Rattle.scene.specs.Views.{viewed}
 use Rattle.scene.proofs.Viewing.{view_sound}
 use Rattle.sums.proofs.OwnSums.{board_low, corner_low}

@@ -1,5 +1,5 @@
 -- The table's sums are the boards' own sums, and the plan's copies lie in it.
-use Rattle.std.proofs.Common.{◌≡◌, ◌<◌, ◌≤◌, ◌++◌, map, length, drop, sym, ap, ◌∙◌, subst}
+use Rattle.std.proofs.Common.{◌<◌, ◌≤◌, ◌++◌, map, length, drop, sym, ap, ◌∙◌, subst}
 use Rattle.std.specs.List.{AllByRecursion as All}
 use Rattle.scene.specs.Views.{viewed}
 use Rattle.sums.specs.Sums.{sum_at}

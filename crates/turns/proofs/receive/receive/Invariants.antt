@@ -1,5 +1,5 @@
 -- So far the lanes of the boards below q are taken.
-use Rattle.std.proofs.Common.{◌≡◌, ◌*◌, ◌≤◌, length}
+use Rattle.std.proofs.Common.{◌≡◌, ◌*◌, ◌≤◌}
 use Rattle.protocol.specs.Steps.{received, lanes_step}
 use Rattle.turns.proofs.receive.receive.Given as goal
 

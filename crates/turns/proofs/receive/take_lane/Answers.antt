@@ -1,5 +1,5 @@
 -- Frame by frame, what is left of the lane grows shorter.
-use Rattle.std.proofs.Common.{◌≡◌, ◌≤◌, ◌||◌, length, drop, sym, refl, ap, ◌∙◌, arith}
+use Rattle.std.proofs.Common.{◌≤◌, ◌||◌, length, sym, refl, ap, ◌∙◌, arith}
 use Rattle.std.proofs.lemmas.List.{drop_all}
 use Rattle.medium.specs.Lanes.{shortened}
 use Rattle.protocol.specs.Frames.{some_item}

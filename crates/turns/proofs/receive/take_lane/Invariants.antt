@@ -1,5 +1,5 @@
 -- What is left of the lane gives, from here, what the whole lane gives from the start.
-use Rattle.std.proofs.Common.{◌≡◌, ℕ, ◌+◌, ◌≤◌, ◌||◌, length, drop}
+use Rattle.std.proofs.Common.{◌≡◌, ◌+◌, ◌≤◌, ◌||◌, length, drop}
 use Rattle.protocol.specs.Frames.{some_item}
 use Rattle.protocol.specs.Steps.{held, frames_step}
 use Rattle.protocol.proofs.Lanes.{without}

@@ -1,5 +1,5 @@
 -- One frame is the first of its lane.
-use Rattle.std.proofs.Common.{◌≡◌, ◌+◌, ◌≤◌, ◌||◌, [], ◌∷◌, take, sym, refl, ap, ◌∙◌, arith}
+use Rattle.std.proofs.Common.{◌≡◌, ◌+◌, ◌||◌, [], ◌∷◌, take, sym, ap, ◌∙◌, arith}
 use Rattle.protocol.specs.Frames.{some_item}
 use Rattle.protocol.specs.Steps.{held, frames_step}
 use Rattle.protocol.proofs.Lanes.{first_alone, one_more_if, byte_at_most_one, alone_item}

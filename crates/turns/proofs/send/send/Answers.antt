@@ -1,10 +1,10 @@
 -- One board more.
-use Rattle.std.proofs.Common.{◌≡◌, ℕ, ◌+◌, ◌≤◌, Bool, false, ◌||◌, ◌≢◌, get_or, sym, ap, ◌∙◌, subst, inl, inr, arith}
+use Rattle.std.proofs.Common.{◌≡◌, ◌≤◌, Bool, false, ◌||◌, get_or, ap, subst, inl, inr, arith}
 use mir.Val.{bool_byte}
 use Rattle.std.proofs.lemmas.Bool.{cases_eq}
 use Rattle.plan.specs.Links.{edges_between}
 use Rattle.protocol.specs.Runs.{link_at}
-use Rattle.protocol.specs.Steps.{Sent, Spoken, due, due_frame, item_due, frame_due}
+use Rattle.protocol.specs.Steps.{Spoken, due, due_frame, item_due, frame_due}
 use Rattle.protocol.proofs.Lanes.{byte_at_most_one}
 use Rattle.protocol.proofs.Sending.{sent_next, lost_was_made}
 use Rattle.turns.proofs.send.send.Goals as goal

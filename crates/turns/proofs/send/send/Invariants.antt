@@ -1,5 +1,5 @@
 -- So far the puts to the boards below q.
-use Rattle.std.proofs.Common.{◌≡◌, ◌≤◌, length}
+use Rattle.std.proofs.Common.{◌≤◌}
 use Rattle.protocol.specs.Steps.{Sent, due, due_frame}
 use Rattle.turns.proofs.send.send.Given as goal
 

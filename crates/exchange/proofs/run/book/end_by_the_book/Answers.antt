@@ -1,5 +1,5 @@
 -- A run that ends has all boards settled by the book, and one that does not has a lowest that is not.
-use Rattle.std.proofs.Common.{◌≡◌, ◌≤◌, sym, ap, ◌∙◌, arith}
+use Rattle.std.proofs.Common.{◌≤◌, ap, ◌∙◌, arith}
 use Rattle.plan.specs.Links.{shape}
 use Rattle.protocol.specs.Books.{lowest_unsettled}
 use Rattle.protocol.specs.Runs.{accepted_in}

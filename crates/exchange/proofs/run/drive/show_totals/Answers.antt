@@ -1,5 +1,5 @@
 -- What is shown are totals, since the run may end.
-use Rattle.std.proofs.Common.{◌≡◌, ◌∙◌, arith}
+use Rattle.std.proofs.Common.{◌∙◌, arith}
 use Rattle.protocol.specs.Runs.{moment}
 use Rattle.exchange.proofs.Shown.{shown_are_totals}
 use Rattle.exchange.proofs.run.drive.show_totals.Goals as goal

@@ -1,5 +1,5 @@
 -- The search for the lowest board goes on, or finds it.
-use Rattle.std.proofs.Common.{◌≡◌, ℕ, ◌<◌, not, sym, refl, ap, ◌∙◌, arith}
+use Rattle.std.proofs.Common.{ℕ, ◌<◌, not, sym, ap, arith}
 use Rattle.plan.specs.Links.{Shape, shape}
 use Rattle.protocol.specs.Books.{is_settled, report_by}
 use Rattle.protocol.specs.Runs.{accepted_in}

@@ -1,5 +1,5 @@
 -- The text goes into the line byte by byte.
-use Rattle.std.proofs.Common.{◌≡◌, [], ◌∷◌, ◌++◌, get_or, take, sym, ap, ◌∙◌, arith}
+use Rattle.std.proofs.Common.{[], ◌∷◌, ◌++◌, get_or, take, sym, ap, ◌∙◌, arith}
 use Rattle.std.proofs.lemmas.List.{append_assoc, take_more, take_all}
 use Rattle.listing.specs.Held.{held}
 use Rattle.listing.proofs.line.Line.text.Goals as goal
