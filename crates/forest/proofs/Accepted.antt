@@ -1,6 +1,6 @@
 -- The laid records keep the rules of a plan.
 use Rattle.std.proofs.Common.{◌≡◌, ℕ, ◌<◌, Bool, true, List, [], ◌∷◌, length, get_or, refl, ap, inl, inr, arith}
-use Rattle.std.specs.List.{AllByRecursion as All}
+use Rattle.std.specs.List.{AllByRecursion}
 use Rattle.std.proofs.lemmas.Bool.{lt-ltb, le-leb, eq-eqb, ne_eqb, and_from, or_left, or_right, not_from_false}
 use Rattle.std.proofs.ByRecursion.{All-weaker}
 use Rattle.scene.specs.Cells.{Scene, Sound}
@@ -16,7 +16,7 @@ use Rattle.forest.proofs.Edges.{LaidEdge, EdgeBefore, edges_laid, edges_rise, le
 use Rattle.forest.proofs.Edges.{root_copy, root_below}
 
 module _ {X : Type 0} where
-  each_passes : (t : X → Bool) (xs : List X) → All (λ x. t x ≡ true) xs → each t xs ≡ true
+  each_passes : (t : X → Bool) (xs : List X) → AllByRecursion (λ x. t x ≡ true) xs → each t xs ≡ true
   each_passes t [] h = refl
   each_passes t (x ∷ xs) h = and_from _ _ h.0 (each_passes t xs h.1)
 
@@ -25,7 +25,7 @@ module _ {X : Type 0} where
   rises before R h [] o = refl
   rises before R h (x ∷ xs) o = and_from _ _ (first xs o.0) (rises before R h xs o.1)
     where
-      first : (ys : List X) → All (R x) ys → first_passes (before x) ys ≡ true
+      first : (ys : List X) → AllByRecursion (R x) ys → first_passes (before x) ys ≡ true
       first [] a = refl
       first (y ∷ ys) a = h x y a.0
 

@@ -1,6 +1,6 @@
 -- The laid copies: each stands at its number, and they rise by board, then vertex.
 use Rattle.std.proofs.Common.{◌≡◌, ℕ, suc, ◌+◌, ◌<◌, true, ◌⊎◌, List, ◌∷◌, ◌++◌, map, length, get_or, filter, sym, refl, ap, ◌∙◌, inl, inr, arith}
-use Rattle.std.specs.List.{range_with_len, AllByRecursion as All}
+use Rattle.std.specs.List.{range_with_len, AllByRecursion}
 use Rattle.std.proofs.lemmas.List.{append_assoc, map-append, length-append, length-map, get_or_at}
 use Rattle.std.proofs.ByRecursion.{All-weaker, All-get_or, All-map}
 use Rattle.plan.specs.declared.records.CopyRecord.{CopyRecord}
@@ -65,12 +65,12 @@ module _ (s : Scene) where
       omega arith
 
   -- all copies are kept, of boards and vertices of the scene
-  pub copies_kept : All (λ r. (r.board < s.boards) × (r.vertex < s.vertices)
+  pub copies_kept : AllByRecursion (λ r. (r.board < s.boards) × (r.vertex < s.vertices)
       × (keeps s r.board r.vertex ≡ true)) (laid_copies s)
   copies_kept = all_joined _ (copies_of s) 0 s.boards (λ p l g. All-map _ (copy p) _
       (All-weaker _ _ (λ v h. (omega arith, omega arith, h.0)) _ (kept_within (keeps s p) 0 s.vertices)))
 
-  pub copies_of_board : (p : ℕ) → All (λ r. r.board ≡ p) (copies_of s p)
+  pub copies_of_board : (p : ℕ) → AllByRecursion (λ r. r.board ≡ p) (copies_of s p)
   copies_of_board p = All-map _ (copy p) _ (all_given _ (λ v. refl) (filter (keeps s p) (range_with_len 0 s.vertices)))
 
   -- they rise by board, then vertex

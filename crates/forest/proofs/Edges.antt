@@ -1,7 +1,7 @@
 -- The laid edges: each names its two copies, they rise, and those between two boards are the edges of that pair.
 use Rattle.std.proofs.Common.{◌≡◌, ℕ, ◌+◌, ◌<◌, ◌≤◌, true, false, not, eqb, ◌≢◌, ◌⊎◌, [], length, get_or, sum_by, filter, sym, refl, ap, ◌∙◌, subst, inl, inr, arith}
 use mathlib.Core.Path.{fun_ext}
-use Rattle.std.specs.List.{range_with_len, AllByRecursion as All}
+use Rattle.std.specs.List.{range_with_len, AllByRecursion}
 use Rattle.std.proofs.lemmas.Bool.{cases_Bool, eqb-true, eqb-false, eq-eqb, ne_eqb, and_parts, and_from, and_left, and_right, not-true}
 use Rattle.std.proofs.ByRecursion.{All-weaker, All-get_or, All-map, all_kept_by, kept_by_passes}
 use Rattle.plan.specs.declared.records.Edge.{Edge}
@@ -49,7 +49,7 @@ module _ (s : Scene) where
   pub says_ghost : (p q v : ℕ) → p ≢ q → keeps s p v ≡ true → owner s v ≡ q → ghost_of s p q v ≡ true
   says_ghost p q v d k o = and_from _ _ (rw (ne_eqb p q d)) (and_from _ _ k (eq-eqb _ _ o))
 
-  edges_to_laid : (p q : ℕ) → p < s.boards → q < s.boards → All (LaidEdge s) (edges_to s p q)
+  edges_to_laid : (p q : ℕ) → p < s.boards → q < s.boards → AllByRecursion (LaidEdge s) (edges_to s p q)
   edges_to_laid p q pb qb =
       All-map _ (edge_to s p q) _ (All-weaker _ _ edge _ (kept_within (ghost_of s p q) 0 s.vertices))
     where
@@ -67,7 +67,7 @@ module _ (s : Scene) where
             root_is = refl;
           }
 
-  pub edges_laid : All (LaidEdge s) (laid_edges s)
+  pub edges_laid : AllByRecursion (LaidEdge s) (laid_edges s)
   edges_laid = all_joined _ (edges_of s) 0 s.boards (λ p _ pb.
       all_joined _ (edges_to s p) 0 s.boards (λ q _ qb. edges_to_laid p q (omega arith) (omega arith)))
 
@@ -118,12 +118,12 @@ module _ (s : Scene) where
       same_edge e f a b (ap (λ r. r.board) copies) (ap (λ r. r.vertex) copies)
 
   -- the boards of the edges of one board, and of one pair
-  pub edges_to_join : (p q : ℕ) → All (λ e. (e.from ≡ p) × (e.to ≡ q)) (edges_to s p q)
+  pub edges_to_join : (p q : ℕ) → AllByRecursion (λ e. (e.from ≡ p) × (e.to ≡ q)) (edges_to s p q)
   edges_to_join p q =
       All-map _ (edge_to s p q) _
       (all_given _ (λ v. (refl, refl)) (filter (ghost_of s p q) (range_with_len 0 s.vertices)))
 
-  pub edges_of_from : (p : ℕ) → All (λ e. e.from ≡ p) (edges_of s p)
+  pub edges_of_from : (p : ℕ) → AllByRecursion (λ e. e.from ≡ p) (edges_of s p)
   edges_of_from p =
       all_joined _ (edges_to s p) 0 s.boards (λ q _ _. All-weaker _ _ (λ e h. h.0) _ (edges_to_join p q))
 

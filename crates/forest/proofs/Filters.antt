@@ -1,6 +1,6 @@
 -- Filters and joins of the numbers from a on.
 use Rattle.std.proofs.Common.{◌≡◌, ℕ, zero, suc, ◌+◌, ◌<◌, ◌≤◌, Bool, true, false, ◌≢◌, List, [], ◌∷◌, ◌++◌, length, sum_by, filter, sym, refl, ap, ◌∙◌, ap₂, inl, inr, arith}
-use Rattle.std.specs.List.{range_with_len, flat_map, AllByRecursion as All}
+use Rattle.std.specs.List.{range_with_len, flat_map, AllByRecursion}
 use Rattle.std.proofs.lemmas.List.{append-nil, append_assoc, length-append}
 use Rattle.std.proofs.lemmas.Bool.{cases_eq, cases_Bool, cond-true}
 use Rattle.std.proofs.lemmas.List.Elements.{filter-append}
@@ -54,10 +54,10 @@ counting_cut p n l = cut _ (rest p n l).1
 
 -- what a filter of 0, 1, 2 .. keeps
 pub kept_within : (t : ℕ → Bool) (a n : ℕ)
-    → All (λ x. (t x ≡ true) × (a ≤ x) × (x < a + n)) (filter t (range_with_len a n))
+    → AllByRecursion (λ x. (t x ≡ true) × (a ≤ x) × (x < a + n)) (filter t (range_with_len a n))
 kept_within t a zero = tt
 kept_within t a (suc n) =
-    let rest : All (λ x. (t x ≡ true) × (a ≤ x) × (x < a + suc n)) (filter t (range_with_len (a + 1) n)) =
+    let rest : AllByRecursion (λ x. (t x ≡ true) × (a ≤ x) × (x < a + suc n)) (filter t (range_with_len (a + 1) n)) =
     All-weaker _ _ (λ x h. (h.0, omega arith, omega arith)) _ (kept_within t (a + 1) n) in
     elim (cases_Bool (t a)) [ inl e ↦ rw e ((e, omega arith, omega arith), rest) | inr e ↦ rw e rest ]
 
@@ -100,7 +100,7 @@ module _ {X : Type 0} where
       ∙ ap (λ zs. flat_map f (range_with_len 0 n) ++ zs) (append-nil (f n))
 
   pub all_joined : (P : X → Type 0) (f : ℕ → List X) (a n : ℕ)
-      → ((p : ℕ) → a ≤ p → p < a + n → All P (f p)) → All P (flat_map f (range_with_len a n))
+      → ((p : ℕ) → a ≤ p → p < a + n → AllByRecursion P (f p)) → AllByRecursion P (flat_map f (range_with_len a n))
   all_joined P f a zero h = tt
   all_joined P f a (suc n) h =
       All-append P (f a) _ (h a (omega arith) (omega arith))
@@ -122,11 +122,11 @@ module _ {X : Type 0} where
       ∙ sym (sum_by-cons (λ y. length (f y)) y ys)
 
   pub kept_joined_none : (t : X → Bool) (f : ℕ → List X) (a n : ℕ)
-      → ((k : ℕ) → a ≤ k → k < a + n → All (λ x. t x ≡ false) (f k)) → filter t (flat_map f (range_with_len a n)) ≡ []
+      → ((k : ℕ) → a ≤ k → k < a + n → AllByRecursion (λ x. t x ≡ false) (f k)) → filter t (flat_map f (range_with_len a n)) ≡ []
   kept_joined_none t f a n h = kept_none t _ (all_joined (λ x. t x ≡ false) f a n h)
 
   -- a filter that only elements of the list number p pass
-  pub kept_joined : (t : X → Bool) (f : ℕ → List X) (p : ℕ) → ((k : ℕ) → k ≢ p → All (λ x. t x ≡ false) (f k))
+  pub kept_joined : (t : X → Bool) (f : ℕ → List X) (p : ℕ) → ((k : ℕ) → k ≢ p → AllByRecursion (λ x. t x ≡ false) (f k))
       → (a n : ℕ) → a ≤ p → p < a + n → filter t (flat_map f (range_with_len a n)) ≡ filter t (f p)
   kept_joined t f p h a zero l g = absurd (omega arith)
   kept_joined t f p h a (suc n) l g = filter-append t (f a) _ ∙ elim (cases_eq a p) [

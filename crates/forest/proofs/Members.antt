@@ -1,6 +1,6 @@
 -- Members of lists: what some element passes, what holds of each, and where a member stands.
 use Rattle.std.proofs.Common.{◌≡◌, ℕ, zero, suc, ◌<◌, Bool, true, false, ◌⊎◌, List, [], ◌∷◌, ◌++◌, map, length, get_or, filter, refl, ap, ◌∙◌, subst, inl, inr, arith}
-use Rattle.std.specs.List.{ContainsAt as Has, AllByRecursion as All}
+use Rattle.std.specs.List.{ContainsAt as Has, AllByRecursion}
 use Rattle.std.proofs.lemmas.Bool.{cases_Bool, or_cases, or_left, or_right, false≢true}
 use Rattle.forest.specs.Forest.{any}
 
@@ -32,7 +32,7 @@ module _ {X : Type 0} where
     | inr b ↦ or_right _ _ (any_weaker t r h xs b)
   ]
 
-  pub all_among : (P : X → Type 0) (xs : List X) (x : X) → All P xs → Among x xs → P x
+  pub all_among : (P : X → Type 0) (xs : List X) (x : X) → AllByRecursion P xs → Among x xs → P x
   all_among P [] x a m = absurd m
   all_among P (y ∷ ys) x a m = elim m [ inl e ↦ subst P e a.0 | inr k ↦ all_among P ys x a.1 k ]
 
@@ -79,15 +79,15 @@ module _ {X : Type 0} where
   ]
 
   -- a filter that all or none pass
-  pub kept_none : (t : X → Bool) (xs : List X) → All (λ x. t x ≡ false) xs → filter t xs ≡ []
+  pub kept_none : (t : X → Bool) (xs : List X) → AllByRecursion (λ x. t x ≡ false) xs → filter t xs ≡ []
   kept_none t [] h = refl
   kept_none t (x ∷ xs) h = rw h.0 (kept_none t xs h.1)
 
-  pub kept_all : (t : X → Bool) (xs : List X) → All (λ x. t x ≡ true) xs → filter t xs ≡ xs
+  pub kept_all : (t : X → Bool) (xs : List X) → AllByRecursion (λ x. t x ≡ true) xs → filter t xs ≡ xs
   kept_all t [] h = refl
   kept_all t (x ∷ xs) h = rw h.0 (ap (λ ys. x ∷ ys) (kept_all t xs h.1))
 
-  pub all_given : (P : X → Type 0) → ((x : X) → P x) → (xs : List X) → All P xs
+  pub all_given : (P : X → Type 0) → ((x : X) → P x) → (xs : List X) → AllByRecursion P xs
   all_given P h [] = tt
   all_given P h (x ∷ xs) = (h x, all_given P h xs)
 

@@ -1,16 +1,16 @@
 -- Lists in which each element stands before every later one, by an order of any kind.
 use Rattle.std.proofs.Common.{◌≡◌, ℕ, zero, suc, ◌+◌, ◌<◌, Bool, List, [], ◌∷◌, ◌++◌, map, length, get_or, filter, subst, inl, inr, arith}
-use Rattle.std.specs.List.{range_with_len, flat_map, AllByRecursion as All}
+use Rattle.std.specs.List.{range_with_len, flat_map, AllByRecursion}
 use Rattle.std.proofs.lemmas.Bool.{cases_order, cases_Bool}
 use Rattle.std.proofs.ByRecursion.{All-weaker, All-get_or, All-append, All-map, all_kept_by}
 use Rattle.forest.proofs.Filters.{all_joined}
 
 abbrev pub Ordered : {X : Type 0} → (X → X → Type 0) → List X → Type 0
 Ordered R [] = Unit {0}
-Ordered R (x ∷ xs) = All (R x) xs × Ordered R xs
+Ordered R (x ∷ xs) = AllByRecursion (R x) xs × Ordered R xs
 
 module _ {X : Type 0} (R : X → X → Type 0) where
-  pub ordered_append : (xs ys : List X) → Ordered R xs → Ordered R ys → All (λ x. All (R x) ys) xs
+  pub ordered_append : (xs ys : List X) → Ordered R xs → Ordered R ys → AllByRecursion (λ x. AllByRecursion (R x) ys) xs
       → Ordered R (xs ++ ys)
   ordered_append [] ys s t h = t
   ordered_append (x ∷ xs) ys s t h = (All-append (R x) xs ys s.0 h.0, ordered_append xs ys s.1 t h.1)
@@ -30,7 +30,7 @@ module _ {X : Type 0} (R : X → X → Type 0) where
 
   -- one list after the other, where P tells of which list an element is
   pub ordered_joined : (P : ℕ → X → Type 0) → ((p q : ℕ) (x y : X) → p < q → P p x → P q y → R x y)
-      → (f : ℕ → List X) → ((p : ℕ) → All (P p) (f p)) → ((p : ℕ) → Ordered R (f p))
+      → (f : ℕ → List X) → ((p : ℕ) → AllByRecursion (P p) (f p)) → ((p : ℕ) → Ordered R (f p))
       → (a n : ℕ) → Ordered R (flat_map f (range_with_len a n))
   ordered_joined P h f w s a zero = tt
   ordered_joined P h f w s a (suc n) =
@@ -60,6 +60,6 @@ pub ordered_counting : (a n : ℕ) → Ordered (λ x y. x < y) (range_with_len a
 ordered_counting a zero = tt
 ordered_counting a (suc n) = (above a (a + 1) n (omega arith), ordered_counting (a + 1) n)
   where
-    above : (b a n : ℕ) → b < a → All (λ y. b < y) (range_with_len a n)
+    above : (b a n : ℕ) → b < a → AllByRecursion (λ y. b < y) (range_with_len a n)
     above b a zero l = tt
     above b a (suc n) l = (l, above b (a + 1) n (omega arith))

@@ -1,6 +1,6 @@
 -- Layers of overlap: a board's own cells are within each, so that a board keeps a copy of each vertex of its cells.
 use Rattle.std.proofs.Common.{◌≡◌, ℕ, zero, suc, ◌<◌, true, ◌&&◌, eqb, subst}
-use Rattle.std.specs.List.{AllByRecursion as All}
+use Rattle.std.specs.List.{AllByRecursion}
 use Rattle.std.proofs.lemmas.Bool.{eqb-true, and_parts, and_from}
 use Rattle.scene.specs.Cells.{Cell, Scene, Sound}
 use Rattle.forest.specs.Forest.{on, touch, overlaps, keeps, owns_cell_on, owner}
@@ -52,7 +52,7 @@ module _ (s : Scene) where
       let (x, j, e) = any_among (λ x. eqb x v) c.corners o in
       subst (λ x. x < s.vertices) (eqb-true x v e)
       (all_among (λ v. v < s.vertices) c.corners x
-      (all_among (λ c. All (λ v. v < s.vertices) c.corners) s.cells c ok.on_vertices i) j)
+      (all_among (λ c. AllByRecursion (λ v. v < s.vertices) c.corners) s.cells c ok.on_vertices i) j)
 
   pub kept_below : Sound s → (p v : ℕ) → keeps s p v ≡ true → (p < s.boards) × (v < s.vertices)
   kept_below ok p v h =

@@ -1,6 +1,6 @@
 -- Some element passes: of a list, and of the numbers below n.
 use Rattle.std.proofs.Common.{◌≡◌, ℕ, zero, suc, ◌<◌, Bool, true, false, ◌&&◌, ◌||◌, List, [], ◌∷◌, length, get_or, sym, refl, ap, ◌∙◌, arith}
-use Rattle.std.specs.List.{AllByRecursion as All}
+use Rattle.std.specs.List.{AllByRecursion}
 use Rattle.forest.specs.Forest.{any}
 use Rattle.laying.specs.Rows.{some}
 
@@ -44,7 +44,7 @@ module _ {X : Type 0} where
   any_same f g h (x ∷ xs) = ap (λ b. b || any f xs) (h x) ∙ ap (λ b. g x || b) (any_same f g h xs)
 
   pub any_same_all : (P : X → Type 0) (f g : X → Bool) → ((x : X) → P x → f x ≡ g x)
-      → (xs : List X) → All P xs → any f xs ≡ any g xs
+      → (xs : List X) → AllByRecursion P xs → any f xs ≡ any g xs
   any_same_all P f g h [] a = refl
   any_same_all P f g h (x ∷ xs) a =
       ap (λ b. b || any f xs) (h x a.0) ∙ ap (λ b. g x || b) (any_same_all P f g h xs a.1)

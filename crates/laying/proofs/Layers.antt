@@ -1,6 +1,6 @@
 -- Rows of flags over cells and over vertices: marking, and one layer more.
 use Rattle.std.proofs.Common.{◌≡◌, ℕ, ◌+◌, ◌<◌, Bool, true, false, ◌&&◌, ◌||◌, eqb, List, length, get_or, set, sym, ap, ◌∙◌, inl, inr, arith}
-use Rattle.std.specs.List.{AllByRecursion as All}
+use Rattle.std.specs.List.{AllByRecursion}
 use Rattle.std.proofs.ByRecursion.{All-get_or, All-weaker}
 use Rattle.std.proofs.lemmas.List.{get_or-set_same, get_or-set_other}
 use Rattle.std.proofs.lemmas.Bool.{cases_eq, eq-eqb, ne_eqb}
@@ -72,7 +72,7 @@ module _ (cs : List Cell) (t : Cell → Bool) (inside touched : List Bool) where
 
   -- a cell has a marked vertex if it touches a cell that passes
   pub reached_is : Tells touched 1024 (λ v. any (λ d. t d && on v d) cs)
-      → (c : Cell) → All (λ v. v < 1024) c.corners
+      → (c : Cell) → AllByRecursion (λ v. v < 1024) c.corners
       → any (flag touched) c.corners ≡ any (λ d. t d && touch c d) cs
   reached_is marks c low =
       any_same_all
@@ -90,14 +90,14 @@ module _ (cs : List Cell) (t : Cell → Bool) (inside touched : List Bool) where
       cs
 
 module _ (s : Scene) (ok : Sound s) (c : ℕ) (h : c < length s.cells) where
-  pub corners_low : All (λ v. v < 1024) (cell_at s.cells c).corners
+  pub corners_low : AllByRecursion (λ v. v < 1024) (cell_at s.cells c).corners
   corners_low =
       All-weaker
       (λ v. v < s.vertices)
       (λ v. v < 1024)
       (λ v l. omega (arith, ok.few_vertices))
       (cell_at s.cells c).corners
-      (All-get_or (λ x. All (λ v. v < s.vertices) x.corners) s.cells c no_cell h ok.on_vertices)
+      (All-get_or (λ x. AllByRecursion (λ v. v < s.vertices) x.corners) s.cells c no_cell h ok.on_vertices)
 
   pub corner_low : (k : ℕ) → k < length (cell_at s.cells c).corners
       → get_or (cell_at s.cells c).corners k 0 < 1024

@@ -1,6 +1,6 @@
 -- Lists in which every record stands in a relation to each later one.
 use Rattle.std.proofs.Common.{◌≡◌, ℕ, zero, suc, ◌+◌, ◌<◌, ◌≤◌, Bool, true, false, ◌&&◌, eqb, ltb, List, [], ◌∷◌, ◌++◌, length, get_or, take, drop, filter, sym, refl, ap, ◌∙◌, inl, inr, arith, length-append}
-use Rattle.std.specs.List.{AllByRecursion as All}
+use Rattle.std.specs.List.{AllByRecursion}
 use Rattle.std.proofs.ByRecursion.{All-weaker, All-get_or, all_kept_by}
 use Rattle.std.proofs.lemmas.List.{take_at, drop_at}
 use Rattle.std.proofs.lemmas.Bool.{and_parts, cases_order, cases_Bool, eq-eqb, ne_eqb, lt-ltb, le-ltb}
@@ -9,16 +9,16 @@ use Rattle.plan.specs.Sums.{sum_below}
 
 abbrev pub Ordered : {X : Type 0} → (X → X → Type 0) → List X → Type 0
 Ordered R [] = Unit {0}
-Ordered R (x ∷ xs) = All (R x) xs × Ordered R xs
+Ordered R (x ∷ xs) = AllByRecursion (R x) xs × Ordered R xs
 
-pub all_from_each : {X : Type 0} (t : X → Bool) (xs : List X) → each t xs ≡ true → All (λ x. t x ≡ true) xs
+pub all_from_each : {X : Type 0} (t : X → Bool) (xs : List X) → each t xs ≡ true → AllByRecursion (λ x. t x ≡ true) xs
 all_from_each t [] h = tt
 all_from_each t (x ∷ xs) h = let (a, b) = and_parts (t x) _ h in (a, all_from_each t xs b)
 
 -- neighbours in a transitive relation are enough
 pub ordered_from_rising : {X : Type 0} (P : X → Type 0) (R : X → X → Type 0) (before : X → X → Bool)
     → ((x y : X) → P x → P y → before x y ≡ true → R x y) → ((x y z : X) → R x y → R y z → R x z)
-    → (xs : List X) → All P xs → rising before xs ≡ true → Ordered R xs
+    → (xs : List X) → AllByRecursion P xs → rising before xs ≡ true → Ordered R xs
 ordered_from_rising P R before less trans [] p h = tt
 ordered_from_rising P R before less trans (x ∷ []) p h = (tt, tt)
 ordered_from_rising P R before less trans (x ∷ y ∷ ys) p h =
@@ -28,11 +28,11 @@ ordered_from_rising P R before less trans (x ∷ y ∷ ys) p h =
     ((r, All-weaker (R y) (R x) (λ z. trans x y z r) ys rest.0), rest)
 
 pub ordered_weaker : {X : Type 0} (P : X → Type 0) (R S : X → X → Type 0)
-    → ((x y : X) → P x → P y → R x y → S x y) → (xs : List X) → All P xs → Ordered R xs → Ordered S xs
+    → ((x y : X) → P x → P y → R x y → S x y) → (xs : List X) → AllByRecursion P xs → Ordered R xs → Ordered S xs
 ordered_weaker P R S w [] p o = tt
 ordered_weaker {X} P R S w (x ∷ xs) p o = (each_weaker xs p.1 o.0, ordered_weaker P R S w xs p.1 o.1)
   where
-    each_weaker : (ys : List X) → All P ys → All (R x) ys → All (S x) ys
+    each_weaker : (ys : List X) → AllByRecursion P ys → AllByRecursion (R x) ys → AllByRecursion (S x) ys
     each_weaker [] q r = tt
     each_weaker (y ∷ ys) q r = (w x y p.0 q.0 r.0, each_weaker ys q.1 r.1)
 
@@ -53,14 +53,14 @@ ordered_at R (x ∷ xs) d o (suc m) (suc k) l h = ordered_at R xs d o.1 m k (ome
 
 -- as many records as there are keys, at most
 pub few_keys : {X : Type 0} (key : X → ℕ) (n : ℕ) (xs : List X) → Ordered (λ x y. key x < key y) xs
-    → All (λ x. key x < n) xs → length xs ≤ n
+    → AllByRecursion (λ x. key x < n) xs → length xs ≤ n
 few_keys {X} key n xs o h =
     let low = All-weaker _ (λ x. 0 ≤ key x) (λ x b. omega arith) xs h in
     let g = above xs 0 o low h (omega arith) in
     omega arith
   where
-    above : (ys : List X) (k : ℕ) → Ordered (λ x y. key x < key y) ys → All (λ x. k ≤ key x) ys
-        → All (λ x. key x < n) ys → k ≤ n → length ys + k ≤ n
+    above : (ys : List X) (k : ℕ) → Ordered (λ x y. key x < key y) ys → AllByRecursion (λ x. k ≤ key x) ys
+        → AllByRecursion (λ x. key x < n) ys → k ≤ n → length ys + k ≤ n
     above [] k q a b l = omega arith
     above (y ∷ ys) k q a b l =
         let r = above ys (suc (key y)) q.1 q.0 b.1 b.0 in
@@ -82,11 +82,11 @@ count_more f n (x ∷ xs) = elim (cases_order (f x) n) [
   ]
 ]
 
-pub none_kept : {X : Type 0} (t : X → Bool) (xs : List X) → All (λ x. t x ≡ false) xs → filter t xs ≡ []
+pub none_kept : {X : Type 0} (t : X → Bool) (xs : List X) → AllByRecursion (λ x. t x ≡ false) xs → filter t xs ≡ []
 none_kept t [] h = refl
 none_kept t (x ∷ xs) h = rw h.0 (none_kept t xs h.1)
 
-pub all_kept : {X : Type 0} (t : X → Bool) (xs : List X) → All (λ x. t x ≡ true) xs → filter t xs ≡ xs
+pub all_kept : {X : Type 0} (t : X → Bool) (xs : List X) → AllByRecursion (λ x. t x ≡ true) xs → filter t xs ≡ xs
 all_kept t [] h = refl
 all_kept t (x ∷ xs) h = rw (h.0, all_kept t xs h.1)
 
@@ -111,7 +111,7 @@ sum_before f xs (suc n) =
     count_more f n xs ∙ ap (λ a. a + length (filter (λ x. eqb (f x) n) xs)) (sum_before f xs n)
 
 -- all records, if all are below n
-pub sum_all : {X : Type 0} (f : X → ℕ) (n : ℕ) (xs : List X) → All (λ x. f x < n) xs
+pub sum_all : {X : Type 0} (f : X → ℕ) (n : ℕ) (xs : List X) → AllByRecursion (λ x. f x < n) xs
     → length xs ≡ sum_below n (λ i. length (filter (λ x. eqb (f x) i) xs))
 sum_all f n xs h =
     ap length (sym (all_kept (λ x. ltb (f x) n) xs (All-weaker _ _ (λ x l. lt-ltb (f x) n l) xs h)))
@@ -121,7 +121,7 @@ pub sum_same : (n : ℕ) (f g : ℕ → ℕ) → ((i : ℕ) → i < n → f i �
 sum_same zero f g h = refl
 sum_same (suc n) f g h = rw (sum_same n f g (λ i l. h i (omega arith)), h n (omega arith))
 
-pub same_kept : {X : Type 0} (t u : X → Bool) (xs : List X) → All (λ x. t x ≡ u x) xs → filter t xs ≡ filter u xs
+pub same_kept : {X : Type 0} (t u : X → Bool) (xs : List X) → AllByRecursion (λ x. t x ≡ u x) xs → filter t xs ≡ filter u xs
 same_kept t u [] h = refl
 same_kept t u (x ∷ xs) h = rw (h.0, same_kept t u xs h.1)
 

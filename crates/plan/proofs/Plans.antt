@@ -1,6 +1,6 @@
 -- What the rules of a plan give.
 use Rattle.std.proofs.Common.{◌≡◌, ℕ, ◌+◌, ◌-◌, ◌*◌, ◌<◌, ◌≤◌, Bool, true, not, ◌&&◌, eqb, ltb, leb, List, [], ◌∷◌, length, get_or, take, drop, filter, sym, refl, ap, ◌∙◌, inl, inr, arith}
-use Rattle.std.specs.List.{AllByRecursion as All}
+use Rattle.std.specs.List.{AllByRecursion}
 use Rattle.std.proofs.ByRecursion.{All-weaker, All-get_or, all_kept_by}
 use Rattle.std.proofs.lemmas.Bool.{and_parts, not-true, cases_Bool, cases_order, ltb-true, leb-true, eqb-true, eqb-false}
 use Rattle.std.proofs.lemmas.Bool.Decides.{nat_tests}
@@ -92,8 +92,8 @@ moved boards copies p q e b f t = record {
 }
 
 -- what passes keeps what holds of all, and passes
-kept_all : {X : Type 0} (t : X → Bool) (P : X → Type 0) (xs : List X) → All P xs
-    → All (λ x. (t x ≡ true) × P x) (filter t xs)
+kept_all : {X : Type 0} (t : X → Bool) (P : X → Type 0) (xs : List X) → AllByRecursion P xs
+    → AllByRecursion (λ x. (t x ≡ true) × P x) (filter t xs)
 kept_all t P [] h = tt
 kept_all t P (x ∷ xs) h = elim (cases_Bool (t x)) [
   | inl e ↦ rw e ((e, h.0), kept_all t P xs h.1)
@@ -115,7 +115,7 @@ module _
   boards_within = let (a, b) = and_parts (leb 1 boards) _ boards_part in (leb-true _ _ a, leb-true _ _ b)
 
   -- ---- copies
-  pub copies_below : All (λ c. (c.board < boards) × (c.vertex < 1024)) copies
+  pub copies_below : AllByRecursion (λ c. (c.board < boards) × (c.vertex < 1024)) copies
   copies_below =
       All-weaker (λ c. copy_fits boards c ≡ true) _
       (λ c h. let (b, v) = and_parts (ltb c.board boards) _ h in (ltb-true _ _ b, ltb-true _ _ v)) copies
@@ -158,18 +158,18 @@ module _
   board_part_within p = part_within (λ c. c.board) p copies copies_by_board
 
   -- ---- edges
-  pub edges_are : All (λ e. Between boards copies e.from e.to e) edges
+  pub edges_are : AllByRecursion (λ e. Between boards copies e.from e.to e) edges
   edges_are =
       All-weaker (λ e. edge_fits boards copies e ≡ true) _ (edge_is boards copies) edges
       (all_from_each (edge_fits boards copies) edges
       (and_parts (each (edge_fits boards copies) edges) _ edges_part).0)
 
-  edges_low : All (λ e. (e.from < 8) × (e.to < 8) × (e.vertex < 1024)) edges
+  edges_low : AllByRecursion (λ e. (e.from < 8) × (e.to < 8) × (e.vertex < 1024)) edges
   edges_low =
       All-weaker _ _ (λ e b. let w = boards_within in
       (omega (arith, b.from_below), omega (arith, b.to_below), b.vertex_below)) edges edges_are
 
-  pub links_low : All (λ e. link_of e < 64) edges
+  pub links_low : AllByRecursion (λ e. link_of e < 64) edges
   links_low = All-weaker _ _ (λ e b. omega (arith, b.0, b.1)) edges edges_low
 
   edges_ordered : Ordered (λ e f. edge_key e < edge_key f) edges
@@ -191,7 +191,7 @@ module _
 
   -- ---- the edges between two boards
   module _ (p q : ℕ) where
-    pub between_are : All (Between boards copies p q) (edges_between edges p q)
+    pub between_are : AllByRecursion (Between boards copies p q) (edges_between edges p q)
     between_are =
         All-weaker (λ e. (joins p q e ≡ true) × Between boards copies e.from e.to e) _
         (λ e h. let (f, t) = and_parts (eqb e.from p) _ h.0 in
@@ -245,7 +245,7 @@ module _
     pub between_none : ((e : Edge) → Between boards copies p q e → ⊥) → edges_between edges p q ≡ []
     between_none no_such = empty (edges_between edges p q) between_are
       where
-        empty : (es : List Edge) → All (Between boards copies p q) es → es ≡ []
+        empty : (es : List Edge) → AllByRecursion (Between boards copies p q) es → es ≡ []
         empty [] h = refl
         empty (e ∷ es) h = absurd (no_such e h.0)
 

@@ -1,6 +1,6 @@
 // Which record of a plan is the first to break the rules.
 ghost use Rattle.std.specs.Prelude.{◌≡◌, ◌<◌, length, is_ok, Ok, Err};
-ghost use Rattle.std.specs.List.{AllByRecursion as All};
+ghost use Rattle.std.specs.List.{AllByRecursion};
 ghost use Rattle.plan.specs.Faults.{bad_copy, bad_edge, plan_fault, fault_in};
 ghost use Rattle.plan.specs.Links.{no_copy, no_edge};
 ghost use Rattle.plan.specs.Sound.{sound_plan, boards_fit, copy_fits, edge_fits, is_copy, keeps_rules};
@@ -98,7 +98,7 @@ fn bad_edge(boards: usize, copies: &[CopyRecord], edges: &[Edge]) -> Option<usiz
 pub(crate) fn check(boards: usize, copies: &[CopyRecord], edges: &[Edge]) -> Result<(), PlanFault>
     ensures accepts { is_ok result ≡ sound_plan boards copies.now edges.now }
     ensures refuses { fault_in result ≡ plan_fault boards copies.now edges.now }
-    ensures low { elim result [ Ok _ ↦ All (λ e. link_of e < 64) edges.now | Err _ ↦ Unit {0} ] }
+    ensures low { elim result [ Ok _ ↦ AllByRecursion (λ e. link_of e < 64) edges.now | Err _ ↦ Unit {0} ] }
 {
     if !boards_fit(boards) {
         return Err(PlanFault::Boards { given: boards });

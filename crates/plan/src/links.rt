@@ -1,6 +1,6 @@
 // Where each link's edges begin.
 ghost use Rattle.std.specs.Prelude.{◌≡◌, ℕ, ◌<◌, length, slice_index};
-ghost use Rattle.std.specs.List.{AllByRecursion as All};
+ghost use Rattle.std.specs.List.{AllByRecursion};
 ghost use Rattle.plan.specs.Starts.{link_of, edges_on, Starts};
 
 use crate::records::Edge;
@@ -13,7 +13,7 @@ fn link_of(e: Edge) -> usize
 
 // How many edges each link has; none is past the last link.
 fn link_counts(edges: &[Edge]) -> [usize; 65]
-    requires { All (λ e. link_of e < 64) edges.now }
+    requires { AllByRecursion (λ e. link_of e < 64) edges.now }
     ensures long { length result ≡ 65 }
     ensures counts { (x : ℕ) → x < 65 → slice_index result x ≡ edges_on edges.now x }
 {
@@ -27,7 +27,7 @@ fn link_counts(edges: &[Edge]) -> [usize; 65]
 
 // For each link, how many edges come before it.
 pub(crate) fn link_starts(edges: &[Edge]) -> [usize; 65]
-    requires { All (λ e. link_of e < 64) edges.now }
+    requires { AllByRecursion (λ e. link_of e < 64) edges.now }
     ensures long { length result ≡ 65 }
     ensures starts { Starts result edges.now }
 {

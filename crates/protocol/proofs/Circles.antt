@@ -1,6 +1,6 @@
 -- The items of all links as a measure, and how many full circles settle every board.
 use Rattle.std.proofs.Common.{◌≡◌, ℕ, ◌+◌, ◌*◌, ◌<◌, ◌≤◌, cond, eqb, ◌≢◌, ◌⊎◌, List, ◌++◌, length, sym, ◌∙◌, inl, inr, arith}
-use Rattle.std.specs.List.{AllByRecursion as All}
+use Rattle.std.specs.List.{AllByRecursion}
 use Rattle.std.proofs.lemmas.Bool.{cases_eq, eq-eqb, ne_eqb, cases_lt, cases_Bool}
 use Rattle.element.specs.Algebra.{Algebra, Lawful}
 use Rattle.plan.specs.Links.{items}
@@ -117,7 +117,7 @@ module _ {M : Type 0} {A : Algebra M} (law : Lawful A) (P : Plan A) where
           (λ t x y k st le. omega (arith, step_j P a b t x y k st)) (omega arith)
 
   -- 4 full circles an edge, and 4 more for each loss, settle every board
-  pub four_circles_an_edge_settle_all : (cs : List (List ℕ)) (rest : List ℕ) → All (Full P.shape.boards) cs
+  pub four_circles_an_edge_settle_all : (cs : List (List ℕ)) (rest : List ℕ) → AllByRecursion (Full P.shape.boards) cs
       → (s u : State M) (l : ℕ) → Trip (Step P) (flat cs ++ rest) s u l → FreshState P s
       → 4 * edges P + 4 * l ≤ length cs → AllSettled P u
   four_circles_an_edge_settle_all cs rest full s u l h f le =

@@ -1,6 +1,6 @@
 -- The counting argument, over any steps: a window of two full circles without a loss gets something done.
 use Rattle.std.proofs.Common.{◌≡◌, ℕ, zero, suc, ◌+◌, ◌*◌, ◌<◌, ◌≤◌, ◌⊎◌, List, [], ◌∷◌, ◌++◌, length, subst, inl, inr, arith}
-use Rattle.std.specs.List.{AllByRecursion as All}
+use Rattle.std.specs.List.{AllByRecursion}
 use Rattle.std.proofs.lemmas.Bool.{cases_lt}
 use Rattle.protocol.specs.Promise.{Full, flat}
 use Rattle.protocol.proofs.Trips.{Trip, Window, trip_split}
@@ -24,7 +24,7 @@ module _ {S : Type 0} (Step : ℕ → S → S → ℕ → Type 0)
     trip_done (t ∷ ts) s u l (m, a, b, st, r, e) v z = trip_done ts m u b r (keeps t s m a st v) (lasts t s m a st v z)
 
     -- k windows, from a good state or from any: each window gets on, unless a put is lost in it or in the one before
-    count : (k : ℕ) (cs : List (List ℕ)) → All (Full boards) cs → k + k ≤ length cs
+    count : (k : ℕ) (cs : List (List ℕ)) → AllByRecursion (Full boards) cs → k + k ≤ length cs
         → (s u : S) (l : ℕ) → Trip Step (flat cs) s u l → Inv s
         → (Good s → Done u ⊎ (k + Φ s ≤ Φ u + 2 * l)) × (Done u ⊎ (k + Φ s ≤ Φ u + 2 * l + 1))
     count zero cs f le s u l h v =
@@ -69,7 +69,7 @@ module _ {S : Type 0} (Step : ℕ → S → S → ℕ → Type 0)
 
     -- two circles for each step up to the top, and four for each loss, are enough
     pub enough : (top : ℕ) → ((s : S) → Inv s → (Φ s < top) ⊎ Done s)
-        → (cs : List (List ℕ)) (rest : List ℕ) → All (Full boards) cs
+        → (cs : List (List ℕ)) (rest : List ℕ) → AllByRecursion (Full boards) cs
         → (s u : S) (l : ℕ) → Trip Step (flat cs ++ rest) s u l → Inv s → Good s → 2 * top + 4 * l ≤ length cs → Done u
     enough top room cs rest f s u l h v g le =
         let (m, a, b, h₁, h₂, sum) = trip_split Step (flat cs) rest s u l h in

@@ -1,6 +1,6 @@
 -- One link: what its two lanes hold, kept by the turns of its two ends.
 use Rattle.std.proofs.Common.{◌≡◌, ℕ, suc, ◌+◌, ◌<◌, ◌≤◌, true, false, ◌⊎◌, List, [], ◌++◌, replicate, Some, None, Option, sym, refl, ap, ◌∙◌, subst, inl, inr, arith}
-use Rattle.std.specs.List.{AllByRecursion as All}
+use Rattle.std.specs.List.{AllByRecursion}
 use Rattle.std.proofs.lemmas.Bool.{cases_eq, false≢true}
 use Rattle.std.proofs.ByRecursion.{All-append}
 use Rattle.element.specs.declared.words.Words.{Words}
@@ -35,8 +35,8 @@ carries_item Holds May j (Some x) (a, b, c) e = (b, c)
 pub data Phase (n : ℕ) (Holds : ℕ → Words → Type 0) (May : ℕ → Type 0) (i j : ℕ) (fw bw : List Frame)
     : Type 0 where
   idle : i ≡ j → Row (brings n) (λ f. Carries (Holds j) (May j) j f.item) j fw
-      → All (λ f. tells_of n i f ≡ false) bw → Phase n Holds May i j fw bw
-  won : j ≡ suc i → All (λ f. brings n j f ≡ false) fw
+      → AllByRecursion (λ f. tells_of n i f ≡ false) bw → Phase n Holds May i j fw bw
+  won : j ≡ suc i → AllByRecursion (λ f. brings n j f ≡ false) fw
       → Row (tells_of n) (λ f. f.reply ≡ odd (suc i)) i bw → Phase n Holds May i j fw bw
 
 -- a link of n items: item k has such words, and once could be sent if it is accepted

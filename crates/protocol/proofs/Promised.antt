@@ -1,7 +1,7 @@
 -- Every run over the laid plan of a scene keeps the promise.
 use Rattle.std.proofs.Common.{◌≡◌, ℕ, ◌+◌, ◌*◌, ◌<◌, ◌≤◌, ◌≢◌, ◌⊎◌, List, ◌++◌, length, get_or, sym, ap, ◌∙◌, subst, inl, inr, arith}
 use mathlib.Core.Path.{fun_ext}
-use Rattle.std.specs.List.{AllByRecursion as All}
+use Rattle.std.specs.List.{AllByRecursion}
 use Rattle.element.specs.Algebra.{Algebra, Lawful}
 use Rattle.scene.specs.Cells.{Scene, Sound}
 use Rattle.plan.specs.Links.{items, no_edge}
@@ -86,7 +86,7 @@ module _ {M : Type 0} (A : Algebra M) (law : Lawful A) (s : Scene) (P : Plan A) 
 
   -- half of the promised circles for the edges are enough
   pub four_circles_an_edge_settle_all_boards : (circles : List (List ℕ)) (rest : List ℕ) → ts ≡ flat circles ++ rest
-      → All (Full s.boards) circles → 4 * length (laid_edges s) + 4 * l ≤ length circles
+      → AllByRecursion (Full s.boards) circles → 4 * length (laid_edges s) + 4 * l ≤ length circles
       → (p : ℕ) → p < s.boards → HasAll (laid A s) book p
   four_circles_an_edge_settle_all_boards cs rest e full enough p pb =
       let (o, f, h) = run_is_trip A s P tie run in

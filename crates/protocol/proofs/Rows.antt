@@ -1,6 +1,6 @@
 -- Rows of frames: old ones first, on which a count stays; then new ones, which can raise it by one.
 use Rattle.std.proofs.Common.{◌≡◌, ℕ, zero, suc, ◌<◌, ◌≤◌, Bool, true, false, ◌⊎◌, List, [], ◌∷◌, ◌++◌, replicate, sym, refl, ◌∙◌, inl, inr, arith}
-use Rattle.std.specs.List.{AllByRecursion as All}
+use Rattle.std.specs.List.{AllByRecursion}
 use Rattle.std.proofs.lemmas.Bool.{cases_Bool, false≢true}
 use Rattle.std.proofs.ByRecursion.{All-append, All-weaker}
 use Rattle.medium.specs.declared.frame.Frame.{Frame}
@@ -27,7 +27,7 @@ pub any_weaker : (Q R : Frame → Type 0) → ((f : Frame) → Q f → R f) → 
 any_weaker Q R h [] s = s
 any_weaker Q R h (f ∷ fs) s = elim s [ inl x ↦ inl (h f x) | inr k ↦ inr (any_weaker Q R h fs k) ]
 
-pub all_replicate : (Q : Frame → Type 0) (k : ℕ) (f : Frame) → Q f → All Q (replicate k f)
+pub all_replicate : (Q : Frame → Type 0) (k : ℕ) (f : Frame) → Q f → AllByRecursion Q (replicate k f)
 all_replicate Q zero f h = tt
 all_replicate Q (suc k) f h = (h, all_replicate Q k f h)
 
@@ -49,23 +49,23 @@ scan_grew t Q h c (f ∷ fs) l = elim (cases_Bool (t c f)) [
 ]
 
 -- frames none of which passes do nothing
-pub scan_quiet : (t : ℕ → Frame → Bool) (c : ℕ) (fs : List Frame) → All (λ f. t c f ≡ false) fs → scan t c fs ≡ c
+pub scan_quiet : (t : ℕ → Frame → Bool) (c : ℕ) (fs : List Frame) → AllByRecursion (λ f. t c f ≡ false) fs → scan t c fs ≡ c
 scan_quiet t c [] h = refl
 scan_quiet t c (f ∷ fs) h = rw h.0 (scan_quiet t c fs h.1)
 
 pub acts_quiet : (t : ℕ → Frame → Bool) {X : Type 0} (g : ℕ → Frame → X → X) (c : ℕ) (x : X) (fs : List Frame)
-    → All (λ f. t c f ≡ false) fs → acts t g c x fs ≡ x
+    → AllByRecursion (λ f. t c f ≡ false) fs → acts t g c x fs ≡ x
 acts_quiet t g c x [] h = refl
 acts_quiet t g c x (f ∷ fs) h = rw h.0 (acts_quiet t g c x fs h.1)
 
 pub quiet_none : (t : ℕ → Frame → Bool) (c : ℕ) (fs : List Frame)
-    → All (λ f. t c f ≡ false) fs → Any (λ f. t c f ≡ true) fs → ⊥
+    → AllByRecursion (λ f. t c f ≡ false) fs → Any (λ f. t c f ≡ true) fs → ⊥
 quiet_none t c [] a s = s
 quiet_none t c (f ∷ fs) a s = elim s [ inl h ↦ false≢true (sym a.0 ∙ h) | inr k ↦ quiet_none t c fs a.1 k ]
 
 -- a row: first frames that do not pass at c, then new ones
 pub data Row (t : ℕ → Frame → Bool) (New : Frame → Type 0) (c : ℕ) : List Frame → Type 0 where
-  new : {fs : List Frame} → All New fs → Row t New c fs
+  new : {fs : List Frame} → AllByRecursion New fs → Row t New c fs
   old : {f : Frame} {fs : List Frame} → t c f ≡ false → Row t New c fs → Row t New c (f ∷ fs)
 
 pub row_weaker : (t : ℕ → Frame → Bool) (c : ℕ) (Q R : Frame → Type 0) → ((f : Frame) → Q f → R f)
@@ -80,17 +80,17 @@ Does t New c g x fs = ((scan t c fs ≡ c) × (acts t g c x fs ≡ x))
     ⊎ ((scan t c fs ≡ suc c) × ((f : Frame) × New f × (t c f ≡ true) × (acts t g c x fs ≡ g c f x)))
 
 module _ (t : ℕ → Frame → Bool) (New : Frame → Type 0) (c : ℕ) where
-  pub row_from_old : (fs : List Frame) → All (λ f. t c f ≡ false) fs → Row t New c fs
+  pub row_from_old : (fs : List Frame) → AllByRecursion (λ f. t c f ≡ false) fs → Row t New c fs
   row_from_old [] h = new tt
   row_from_old (f ∷ fs) h = old h.0 (row_from_old fs h.1)
 
-  pub row_append : {fs : List Frame} (gs : List Frame) → Row t New c fs → All New gs → Row t New c (fs ++ gs)
+  pub row_append : {fs : List Frame} (gs : List Frame) → Row t New c fs → AllByRecursion New gs → Row t New c (fs ++ gs)
   row_append gs (new {fs} h) k = new (All-append New fs gs h k)
   row_append gs (old h r) k = old h (row_append gs r k)
 
   -- no new frame passes once the count is raised
   module _ (quiet : (f : Frame) → New f → t (suc c) f ≡ false) where
-    new_acts : {X : Type 0} (g : ℕ → Frame → X → X) (x : X) (fs : List Frame) → All New fs → Does t New c g x fs
+    new_acts : {X : Type 0} (g : ℕ → Frame → X → X) (x : X) (fs : List Frame) → AllByRecursion New fs → Does t New c g x fs
     new_acts g x [] k = inl (refl, refl)
     new_acts g x (f ∷ fs) k = elim (cases_Bool (t c f)) [
       | inl e ↦
@@ -112,7 +112,7 @@ module _ (t : ℕ → Frame → Bool) (New : Frame → Type 0) (c : ℕ) where
     row_passes (old h r) s = elim s [ inl e ↦ absurd (false≢true (sym h ∙ e)) | inr k ↦ rw h (row_passes r k) ]
     row_passes (new {fs} h) s = go fs h s
       where
-        go : (gs : List Frame) → All New gs → Any (λ f. t c f ≡ true) gs → scan t c gs ≡ suc c
+        go : (gs : List Frame) → AllByRecursion New gs → Any (λ f. t c f ≡ true) gs → scan t c gs ≡ suc c
         go [] k s = absurd s
         go (g ∷ gs) k s = elim (cases_Bool (t c g)) [
           | inl e ↦ rw e (scan_quiet t (suc c) gs (All-weaker New (λ f. t (suc c) f ≡ false) quiet gs k.1))

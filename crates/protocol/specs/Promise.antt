@@ -1,6 +1,6 @@
 -- The promise over every run: what boards hold, what reports say, and how soon all are settled.
 use Rattle.std.specs.Prelude.{◌≡◌, ℕ, ◌+◌, ◌*◌, ◌<◌, ◌≤◌, ◌⊎◌, List, [], ◌∷◌, ◌++◌, length, get_or, slice_index_or}
-use Rattle.std.specs.List.{AllByRecursion as All}
+use Rattle.std.specs.List.{AllByRecursion}
 use Rattle.element.specs.Algebra.{Algebra}
 use Rattle.scene.specs.Cells.{Scene, Sound}
 use Rattle.scene.specs.Sums.{own_sum, undivided}
@@ -55,7 +55,7 @@ module _ {M : Type 0} (A : Algebra M) (s : Scene) where
         → HoldsOwn m (get_or (laid_edges s) e no_edge).leaf ⊎ HoldsTotal m (get_or (laid_edges s) e no_edge).leaf
     -- once the turns can be cut into 8 full circles an edge and 4 more for each loss, every board is settled
     pub enough_circles_settle_all_boards : (circles : List (List ℕ)) (rest : List ℕ) → ts ≡ flat circles ++ rest
-        → All (Full s.boards) circles → 8 * length (laid_edges s) + 4 * losses ≤ length circles
+        → AllByRecursion (Full s.boards) circles → 8 * length (laid_edges s) + 4 * losses ≤ length circles
         → (p : ℕ) → p < s.boards → HasAll (laid A s) book p
     -- the tally counts the turns, and the puts that left no frame
     pub tally_counts_turns : m.tally.turns ≡ length ts

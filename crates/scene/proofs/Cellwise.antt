@@ -1,6 +1,6 @@
 -- A cell's bytes are read as the cell, and a cell that is read has the bytes that it was read from.
 use Rattle.std.proofs.Common.{◌≡◌, ℕ, ◌+◌, ◌*◌, ◌<◌, ◌≤◌, List, [], ◌∷◌, ◌++◌, map, length, get_or, sym, refl, ap, ◌∙◌, subst, arith}
-use Rattle.std.specs.List.{range_with_len, flat_map, AllByRecursion as All}
+use Rattle.std.specs.List.{range_with_len, flat_map, AllByRecursion}
 use Rattle.std.proofs.lemmas.List.FromFn.{fill_by_all, length-map-range_with_len}
 use Rattle.std.proofs.lemmas.List.{length-append}
 use Rattle.element.specs.declared.words.Words.{Words}
@@ -12,14 +12,14 @@ use Rattle.scene.proofs.Counted.{get_or_counted}
 use Rattle.scene.proofs.Standing.{Stands, moved, cut, glue, ends, length_each, cut_each, glue_each}
 use Rattle.scene.proofs.Standing.{number_there, words_there, number_stands, words_stand}
 
-pub every : {X : Type 0} (P : X → Type 0) → ((x : X) → P x) → (xs : List X) → All P xs
+pub every : {X : Type 0} (P : X → Type 0) → ((x : X) → P x) → (xs : List X) → AllByRecursion P xs
 every P h [] = tt
 every P h (x ∷ xs) = (h x, every P h xs)
 
-pub twos : (xs : List ℕ) → All (λ n. length (two_bytes n) ≡ 2) xs
+pub twos : (xs : List ℕ) → AllByRecursion (λ n. length (two_bytes n) ≡ 2) xs
 twos xs = every (λ n. length (two_bytes n) ≡ 2) (λ n. refl) xs
 
-pub twelves : (xs : List Words) → All (λ w. length (words_bytes w) ≡ 12) xs
+pub twelves : (xs : List Words) → AllByRecursion (λ w. length (words_bytes w) ≡ 12) xs
 twelves xs = every (λ w. length (words_bytes w) ≡ 12) (λ w. refl) xs
 
 same_byte : (b : List ℕ) (p q x : ℕ) → p ≡ q → byte_at b p ≡ x → byte_at b q ≡ x

@@ -1,6 +1,6 @@
 -- When all rules of a list hold: the list taken apart, and put together.
 use Rattle.std.proofs.Common.{◌≡◌, ℕ, ◌+◌, ◌<◌, ◌≤◌, true, ◌&&◌, List, [], ◌∷◌, ◌++◌, refl, ap}
-use Rattle.std.specs.List.{range_with_len, flat_map, AllByRecursion as All}
+use Rattle.std.specs.List.{range_with_len, flat_map, AllByRecursion}
 use Rattle.std.proofs.lemmas.Bool.{and_parts, and_from}
 use Rattle.scene.specs.declared.fault.RecordFault.{RecordFault}
 use Rattle.scene.specs.Rules.{Rule, all_hold, in_record}
@@ -10,11 +10,11 @@ use Rattle.scene.proofs.Counted.{all_counted, counted_all}
 abbrev pub Kept : {F : Type 0} → Rule F → Type 0
 Kept r = r.0 ≡ true
 
-pub each_kept : {F : Type 0} (rs : List (Rule F)) → all_hold rs ≡ true → All Kept rs
+pub each_kept : {F : Type 0} (rs : List (Rule F)) → all_hold rs ≡ true → AllByRecursion Kept rs
 each_kept [] h = tt
 each_kept (r ∷ rs) h = let p = and_parts r.0 (all_hold rs) h in (p.0, each_kept rs p.1)
 
-pub kept_each : {F : Type 0} (rs : List (Rule F)) → All Kept rs → all_hold rs ≡ true
+pub kept_each : {F : Type 0} (rs : List (Rule F)) → AllByRecursion Kept rs → all_hold rs ≡ true
 kept_each [] h = refl
 kept_each (r ∷ rs) h = and_from r.0 (all_hold rs) h.0 (kept_each rs h.1)
 
@@ -38,13 +38,13 @@ hold_record n [] = refl
 hold_record n (r ∷ rs) = ap (λ t. r.0 && t) (hold_record n rs)
 
 hold_joined : {F : Type 0} (f : ℕ → List (Rule F)) (is : List ℕ) → all_hold (flat_map f is) ≡ true
-    → All (λ i. all_hold (f i) ≡ true) is
+    → AllByRecursion (λ i. all_hold (f i) ≡ true) is
 hold_joined f [] h = tt
 hold_joined f (i ∷ is) h =
     let p = hold_append (f i) (flat_map f is) h in
     (p.0, hold_joined f is p.1)
 
-joined_hold : {F : Type 0} (f : ℕ → List (Rule F)) (is : List ℕ) → All (λ i. all_hold (f i) ≡ true) is
+joined_hold : {F : Type 0} (f : ℕ → List (Rule F)) (is : List ℕ) → AllByRecursion (λ i. all_hold (f i) ≡ true) is
     → all_hold (flat_map f is) ≡ true
 joined_hold f [] h = refl
 joined_hold f (i ∷ is) h = append_hold (f i) (flat_map f is) h.0 (joined_hold f is h.1)

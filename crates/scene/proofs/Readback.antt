@@ -1,6 +1,6 @@
 -- Bytes that are admitted are those of the scene that is read from them.
 use Rattle.std.proofs.Common.{◌≡◌, ℕ, ◌+◌, ◌*◌, ◌%◌, ◌<◌, true, List, [], ◌∷◌, ◌++◌, length, sym, refl, ap, ◌∙◌, subst, mul_comm, arith}
-use Rattle.std.specs.List.{flat_map, AllByRecursion as All}
+use Rattle.std.specs.List.{flat_map, AllByRecursion}
 use Rattle.std.proofs.lemmas.List.{length-append}
 use Rattle.std.proofs.lemmas.Bool.{and_parts, leb-true, eqb-true}
 use Rattle.element.specs.Algebra.{Fits, kept}
@@ -62,7 +62,7 @@ module _ (b : List ℕ) (small : (i : ℕ) → byte_at b i < 256) (ok : admits b
   read_proper =
       record { ranges = sound b ok; each_cell = all_made (ProperCell k (byte_at b 3)) read count proper_cell }
 
-  sized : All (λ c. length (cell_bytes c) ≡ cell_size k) (scene_of b).cells
+  sized : AllByRecursion (λ c. length (cell_bytes c) ≡ cell_size k) (scene_of b).cells
   sized =
       all_made (λ c. length (cell_bytes c) ≡ cell_size k) read count
       (λ n l. length_cell k (read n) (some_corners n l) (some_parts n l))

@@ -1,6 +1,6 @@
 -- A scene's bytes are admitted and read as the scene.
 use Rattle.std.proofs.Common.{◌≡◌, ℕ, ◌+◌, ◌*◌, ◌/◌, ◌%◌, ◌<◌, ◌≤◌, true, List, [], ◌∷◌, ◌++◌, map, length, get_or, sym, refl, ap, ◌∙◌, subst, mul_comm, arith}
-use Rattle.std.specs.List.{range_with_len, flat_map, AllByRecursion as All}
+use Rattle.std.specs.List.{range_with_len, flat_map, AllByRecursion}
 use Rattle.std.proofs.lemmas.List.FromFn.{fill_by_all}
 use Rattle.std.proofs.ByRecursion.{All-get_or, All-weaker}
 use Rattle.std.proofs.lemmas.List.{length-append}
@@ -27,7 +27,7 @@ module _ (s : Scene) (ok : Proper (corners_of (written s)) s) where
   abbrev k : ℕ
   k = corners_of b
 
-  sized : All (λ c. length (cell_bytes c) ≡ cell_size k) s.cells
+  sized : AllByRecursion (λ c. length (cell_bytes c) ≡ cell_size k) s.cells
   sized =
       All-weaker (ProperCell k s.kind) (λ c. length (cell_bytes c) ≡ cell_size k)
       (λ c p. length_cell k c p.some_corners p.some_parts) s.cells ok.each_cell
@@ -92,7 +92,7 @@ module _ (s : Scene) (ok : Proper (corners_of (written s)) s) where
     cell_keeps =
         let board = All-get_or (λ x. x.board < s.boards) s.cells n no_cell l ok.ranges.owned in
         let on =
-        All-get_or (λ x. All (λ v. v < s.vertices) x.corners) s.cells n no_cell l ok.ranges.on_vertices in
+        All-get_or (λ x. AllByRecursion (λ v. v < s.vertices) x.corners) s.cells n no_cell l ok.ranges.on_vertices in
         record {
           room = there.room;
           mark = there.mark;

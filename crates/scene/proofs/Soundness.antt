@@ -1,6 +1,6 @@
 -- What follows for a scene from its bytes being admitted.
 use Rattle.std.proofs.Common.{◌≡◌, ℕ, ◌+◌, ◌-◌, ◌*◌, ◌%◌, ◌<◌, ◌≤◌, true, ◌||◌, eqb, ltb, List, ◌++◌, map, length, sym, refl, ◌∙◌, inl, inr, arith}
-use Rattle.std.specs.List.{range_with_len, flat_map, AllByRecursion as All}
+use Rattle.std.specs.List.{range_with_len, flat_map, AllByRecursion}
 use Rattle.std.proofs.lemmas.List.FromFn.{length-map-range_with_len}
 use Rattle.std.proofs.ByRecursion.{All-map}
 use Rattle.std.proofs.lemmas.Bool.{and_parts, leb-true, ltb-true, eqb-true, eqb-false, not-true, and_from, or_left, or_right, not_from_false, cases_lt, le-leb, lt-ltb, eq-eqb, ne_eqb}
@@ -18,14 +18,14 @@ use Rattle.scene.proofs.Holding.{Kept, each_kept, kept_each, hold_append, append
 
 -- what holds of each number below n holds of each element made from one
 pub all_made : {X : Type 0} (P : X → Type 0) (f : ℕ → X) (n : ℕ) → ((i : ℕ) → i < n → P (f i))
-    → All P (map f (range_with_len 0 n))
+    → AllByRecursion P (map f (range_with_len 0 n))
 all_made P f n h = All-map P f (range_with_len 0 n) (all_counted (λ i. P (f i)) 0 n (λ i l m. h i (omega arith)))
 
 pub made_length : {X : Type 0} (f : ℕ → X) (n : ℕ) → length (map f (range_with_len 0 n)) ≡ n
 made_length f n = length-map-range_with_len f 0 n
 
 -- every cell has as many corners as the bytes' version says
-pub corners_count : (b : List ℕ) → All (λ c. length c.corners ≡ corners_of b) (scene_of b).cells
+pub corners_count : (b : List ℕ) → AllByRecursion (λ c. length c.corners ≡ corners_of b) (scene_of b).cells
 corners_count b =
     let k = corners_of b in
     all_made (λ c. length c.corners ≡ k) (λ i. cell_at k b (cell_place k i)) (number_at b 8)
@@ -113,7 +113,7 @@ module _ (b : List ℕ) (ok : admits b ≡ true) where
   parts : (all_hold (in_record 0 (header_rules b)) ≡ true) × (all_hold (body_rules (head_of b) b) ≡ true)
   parts = hold_append (in_record 0 (header_rules b)) (body_rules (head_of b) b) ok
 
-  pub header_kept : All Kept (header_rules b)
+  pub header_kept : AllByRecursion Kept (header_rules b)
   header_kept = each_kept (header_rules b) (sym (hold_record 0 (header_rules b)) ∙ parts.0)
 
   body : (all_hold (flat_map (cell_record (head_of b) b) (range_with_len 0 (number_at b 8))) ≡ true)
@@ -123,7 +123,7 @@ module _ (b : List ℕ) (ok : admits b ≡ true) where
       (in_record (number_at b 8 + 1) (end_rules b (cell_place (corners_of b) (number_at b 8))))
       parts.1
 
-  pub end_kept : All Kept (end_rules b (cell_place (corners_of b) (number_at b 8)))
+  pub end_kept : AllByRecursion Kept (end_rules b (cell_place (corners_of b) (number_at b 8)))
   end_kept =
       let rules = end_rules b (cell_place (corners_of b) (number_at b 8)) in
       each_kept rules (sym (hold_record (number_at b 8 + 1) rules) ∙ body.1)
@@ -153,7 +153,7 @@ module _ (b : List ℕ) (ok : admits b ≡ true) where
         few_vertices = leb-true _ _ tail.1.1.0;
         few_cells = rw (made_length cell n) (leb-true _ _ tail.1.1.1.0);
         owned = all_made (λ c. c.board < byte_at b 4) cell n (λ i l. (cell_fine i l).board);
-        on_vertices = all_made (λ c. All (λ v. v < number_at b 6) c.corners) cell n
+        on_vertices = all_made (λ c. AllByRecursion (λ v. v < number_at b 6) c.corners) cell n
             (λ i l. all_made (λ v. v < number_at b 6) (λ j. number_at b (corner_place (cell_place k i) j)) k
             (λ j m. (cell_fine i l).corners j m));
         as_many_parts = all_made (λ c. length c.parts ≡ length c.corners) cell n

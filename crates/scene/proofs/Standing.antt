@@ -1,6 +1,6 @@
 -- Which bytes stand where: lists of bytes put together and taken apart by their places.
 use Rattle.std.proofs.Common.{◌≡◌, ℕ, zero, suc, ◌+◌, ◌-◌, ◌*◌, ◌/◌, ◌%◌, ◌^◌, ◌<◌, ◌≤◌, List, [], ◌∷◌, ◌++◌, length, get_or, drop, sym, refl, ap, ◌∙◌, subst, mul-zero, mul-suc, arith}
-use Rattle.std.specs.List.{flat_map, AllByRecursion as All}
+use Rattle.std.specs.List.{flat_map, AllByRecursion}
 use Rattle.std.proofs.lemmas.List.{drop_all, drop_more, length-append, length-drop}
 use Rattle.element.specs.declared.words.Words.{Words}
 use Rattle.scene.specs.Layout.{byte_at, number_at, word_at, words_at}
@@ -57,7 +57,7 @@ module _ (b : List ℕ) where
 -- lists of one size, one for each element
 module _ {X : Type 0} (g : X → List ℕ) (size : ℕ) (d : X) where
   abbrev Sized : List X → Type 0
-  Sized xs = All (λ x. length (g x) ≡ size) xs
+  Sized xs = AllByRecursion (λ x. length (g x) ≡ size) xs
 
   pub length_each : (xs : List X) → Sized xs → length (flat_map g xs) ≡ size * length xs
   length_each [] h = sym (mul-zero size)

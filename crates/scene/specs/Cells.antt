@@ -1,6 +1,6 @@
 -- What a scene says: its header's numbers and its cells.
 use Rattle.std.specs.Prelude.{◌≡◌, ℕ, ◌<◌, ◌≤◌, true, List, length}
-use Rattle.std.specs.List.{AllByRecursion as All}
+use Rattle.std.specs.List.{AllByRecursion}
 use Rattle.element.specs.Kinds.{is_kind}
 use Rattle.element.specs.declared.words.Words.{Words}
 
@@ -25,6 +25,6 @@ pub record Sound (s : Scene) : Type 0 where
   pub few_layers : s.overlap ≤ 4
   pub few_vertices : s.vertices ≤ 1024
   pub few_cells : length s.cells ≤ 1024
-  pub owned : All (λ c. c.board < s.boards) s.cells
-  pub on_vertices : All (λ c. All (λ v. v < s.vertices) c.corners) s.cells
-  pub as_many_parts : All (λ c. length c.parts ≡ length c.corners) s.cells
+  pub owned : AllByRecursion (λ c. c.board < s.boards) s.cells
+  pub on_vertices : AllByRecursion (λ c. AllByRecursion (λ v. v < s.vertices) c.corners) s.cells
+  pub as_many_parts : AllByRecursion (λ c. length c.parts ≡ length c.corners) s.cells

@@ -1,6 +1,6 @@
 -- The bytes of a scene, and which scenes have bytes.
 use Rattle.std.specs.Prelude.{◌≡◌, ℕ, ◌/◌, ◌%◌, ◌<◌, List, [], ◌∷◌, ◌++◌, length, ◌≢◌, slice_index}
-use Rattle.std.specs.List.{flat_map, AllByRecursion as All}
+use Rattle.std.specs.List.{flat_map, AllByRecursion}
 use Rattle.element.specs.Algebra.{Fits, kept}
 use Rattle.element.specs.Kinds.{used_by}
 use Rattle.element.specs.declared.words.Words.{Words}
@@ -36,13 +36,13 @@ pub record ProperCell (k kind : ℕ) (c : Cell) : Type 0 where
   pub some_corners : length c.corners ≡ k
   pub some_parts : length c.parts ≡ k
   pub apart : (i j : ℕ) → i < j → j < k → slice_index c.corners i ≢ slice_index c.corners j
-  pub fit : All Fits c.parts
-  pub unused : All (λ w. kept (used_by kind) w ≡ w) c.parts
+  pub fit : AllByRecursion Fits c.parts
+  pub unused : AllByRecursion (λ w. kept (used_by kind) w ≡ w) c.parts
 
 -- a scene within its ranges, whose cells have k corners
 pub record Proper (k : ℕ) (s : Scene) : Type 0 where
   pub ranges : Sound s
-  pub each_cell : All (ProperCell k s.kind) s.cells
+  pub each_cell : AllByRecursion (ProperCell k s.kind) s.cells
 
 -- bytes are those of the scene s, whose cells have three corners
 abbrev pub Writes : List ℕ → Scene → Type 0

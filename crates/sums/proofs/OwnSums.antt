@@ -1,6 +1,6 @@
 -- The table of own sums, as contributions are joined into it, and the copies that are set from it.
 use Rattle.std.proofs.Common.{◌≡◌, ℕ, zero, suc, ◌+◌, ◌<◌, ◌≤◌, true, eqb, List, [], ◌∷◌, ◌++◌, map, length, get_or, take, drop, set, replicate, Some, None, Option, sym, refl, ap, ◌∙◌, subst, ap₂, inl, inr, arith}
-use Rattle.std.specs.List.{slice_get, AllByRecursion as All}
+use Rattle.std.specs.List.{slice_get, AllByRecursion}
 use Rattle.std.proofs.ByRecursion.{All-weaker, All-get_or}
 use Rattle.std.proofs.lemmas.List.{append_assoc, map-append, map_more, take_all, take_more, drop_more, set_at, length-set, length-take-le, length-map, length-replicate, get_or-set_same, get_or-set_other, get_or-replicate}
 use Rattle.std.proofs.lemmas.Bool.{cases_eq}
@@ -28,7 +28,7 @@ abbrev pub Of : {X : Type 0} → (X → Type 0) → Option X → Type 0
 Of P None = Unit {0}
 Of P (Some x) = P x
 
-of_nth : {X : Type 0} (P : X → Type 0) (xs : List X) (i : ℕ) → All P xs → Of P (slice_get xs i)
+of_nth : {X : Type 0} (P : X → Type 0) (xs : List X) (i : ℕ) → AllByRecursion P xs → Of P (slice_get xs i)
 of_nth P [] i h = tt
 of_nth P (x ∷ xs) zero h = h.0
 of_nth P (x ∷ xs) (suc i) h = of_nth P xs i h.1
@@ -48,9 +48,9 @@ module _ (s : Scene) (sound : Sound s) where
   pub corner_low : (c k v : ℕ) → corner_of s c k ≡ Some v → v < 1024
   corner_low c k v e =
       subst (Of (λ x. x < 1024)) e
-      (of_within (λ x. All (λ y. y < 1024) x.corners) (λ x. x < 1024) (λ x. slice_get x.corners k)
+      (of_within (λ x. AllByRecursion (λ y. y < 1024) x.corners) (λ x. x < 1024) (λ x. slice_get x.corners k)
       (λ x h. of_nth (λ y. y < 1024) x.corners k h) (slice_get s.cells c)
-      (of_nth (λ x. All (λ y. y < 1024) x.corners) s.cells c (corners_low s sound)))
+      (of_nth (λ x. AllByRecursion (λ y. y < 1024) x.corners) s.cells c (corners_low s sound)))
 
 -- ---- joining into the table
 
@@ -180,12 +180,12 @@ over_more f xs ys n d l m =
 
 -- equal values at all elements
 pub map_alike : {X Y : Type 0} (P : X → Type 0) (f g : X → Y) → ((x : X) → P x → f x ≡ g x)
-    → (xs : List X) → All P xs → map f xs ≡ map g xs
+    → (xs : List X) → AllByRecursion P xs → map f xs ≡ map g xs
 map_alike P f g h [] p = refl
 map_alike P f g h (x ∷ xs) p = ap₂ ◌∷◌ (h x p.0) (map_alike P f g h xs p.1)
 
 pub copies_low : (boards : ℕ) (records : List CopyRecord) (edges : List Edge) → sound_plan boards records edges ≡ true
-    → All (λ r. (r.board < 8) × (r.vertex < 1024)) records
+    → AllByRecursion (λ r. (r.board < 8) × (r.vertex < 1024)) records
 copies_low boards records edges ok =
     let w = boards_within boards records edges ok in
     All-weaker _ _ (λ r h. (omega (arith, h.0, w.1), h.1)) records (copies_below boards records edges ok)
@@ -193,7 +193,7 @@ copies_low boards records edges ok =
 -- each copy is set to its own sum
 pub loaded : {M : Type 0} (A : Algebra M) (s : Scene) (table : List Words) (records : List CopyRecord)
     → ((p v : ℕ) → p < 8 → v < 1024 → sum_at A table p v ≡ own_sum A s p v)
-    → All (λ r. (r.board < 8) × (r.vertex < 1024)) records
+    → AllByRecursion (λ r. (r.board < 8) × (r.vertex < 1024)) records
     → map (λ r. sum_at A table r.board r.vertex) records ≡ loaded_copies A s records
 loaded A s table records h low =
     map_alike _ _ _ (λ r l. h r.board r.vertex l.0 l.1) records low

@@ -1,7 +1,7 @@
 // A table of what each board's own cells bring to each vertex. The sums stand in it as words, whose size
 // is known, as that of a type parameter is not.
 ghost use Rattle.std.specs.Prelude.{◌≡◌, ℕ, ◌+◌, ◌<◌, ◌≤◌, List, ◌++◌, map, length, take, drop};
-ghost use Rattle.std.specs.List.{AllByRecursion as All};
+ghost use Rattle.std.specs.List.{AllByRecursion};
 ghost use Rattle.scene.specs.Read.{board_of, corner_of, part_of};
 ghost use Rattle.scene.specs.Sums.{own_sum};
 ghost use Rattle.scene.specs.Views.{viewed};
@@ -95,7 +95,7 @@ fn sum_of<E: Element>(table: &[Words], copy: CopyRecord) -> E
 
 // Sets each copy to its sum.
 fn set_copies<E: Element>(records: &[CopyRecord], table: &[Words], copies: &mut [E])
-    requires low { All (λ r. (r.board < 8) × (r.vertex < 1024)) records.now }
+    requires low { AllByRecursion (λ r. (r.board < 8) × (r.vertex < 1024)) records.now }
     requires long { length table.now ≡ table_size }
     requires room { length records.now ≤ length copies.old }
     ensures { copies.new

@@ -1,6 +1,6 @@
 -- The table's sums are the boards' own sums, and the plan's copies lie in it.
 use Rattle.std.proofs.Common.{◌<◌, ◌≤◌, ◌++◌, map, length, drop, sym, ap, ◌∙◌, subst}
-use Rattle.std.specs.List.{AllByRecursion as All}
+use Rattle.std.specs.List.{AllByRecursion}
 use Rattle.scene.specs.Views.{viewed}
 use Rattle.sums.specs.Sums.{sum_at}
 use Rattle.sums.proofs.OwnSums.{copies_low, loaded}
@@ -11,7 +11,7 @@ set_copies-requires g c =
     let plan = c.args.plan.now in
     let same = sym (ap (λ x. x.now) c.copies.ensures) in
     record {
-      low = subst (All (λ r. (r.board < 8) × (r.vertex < 1024))) same
+      low = subst (AllByRecursion (λ r. (r.board < 8) × (r.vertex < 1024))) same
           (copies_low plan.boards plan.copies.now plan.edges.now plan.sound);
       long = c.own_sums-table.ensures.long;
       room = subst (λ rs. length rs ≤ length c.args.copies.now) same c.requires.room;
