@@ -1,5 +1,6 @@
 -- Pages grow by whole lines.
-use Rattle.std.proofs.Common.{◌≡◌, ℕ, zero, suc, ◌+◌, ◌<◌, ◌⊎◌, List, [], ◌∷◌, ◌++◌, sym, refl, ap, ◌∙◌, ap₂, inl, inr, append_assoc, append-nil, add-one, arith}
+use Rattle.std.proofs.Common.{◌≡◌, ℕ, zero, suc, ◌+◌, ◌<◌, ◌⊎◌, List, [], ◌∷◌, ◌++◌, sym, refl, ap, ◌∙◌, ap₂, inl}
+use Rattle.std.proofs.Common.{inr, append_assoc, append-nil, add-one, arith}
 use Rattle.element.specs.Algebra.{Algebra}
 use Rattle.element.specs.declared.words.Words.{Words}
 use Rattle.plan.specs.declared.records.CopyRecord.{CopyRecord}

@@ -1,5 +1,7 @@
 -- A run that is listed is one that circles led to from a fresh start.
-use Rattle.std.proofs.Common.{◌≡◌, ℕ, ◌+◌, ◌*◌, ◌/◌, ◌%◌, ◌<◌, ◌≤◌, Bool, not, List, [], ◌++◌, length, Some, None, Ok, Err, Result, refl, ap, ◌∙◌, subst, inl, inr, le_trans, mul-le-mul_right, add-mul, mul-le-mul_left, arith}
+use Rattle.std.proofs.Common.{◌≡◌, ℕ, ◌+◌, ◌*◌, ◌/◌, ◌%◌, ◌<◌, ◌≤◌, Bool, not, List, [], ◌++◌, length, Some, None, Ok}
+use Rattle.std.proofs.Common.{Err, Result, refl, ap, ◌∙◌, subst, inl, inr, le_trans, mul-le-mul_right, add-mul}
+use Rattle.std.proofs.Common.{mul-le-mul_left, arith}
 use Rattle.std.proofs.lemmas.Bool.{cases_lt, eq-eqb, le-leb, lt-ltb}
 use Rattle.element.specs.Algebra.{Algebra, Lawful}
 use Rattle.medium.specs.Lanes.{Lanes}

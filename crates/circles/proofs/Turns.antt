@@ -1,5 +1,7 @@
 -- Turns of the boards in ascending order, and circles of them.
-use Rattle.std.proofs.Common.{◌≡◌, ℕ, suc, ◌+◌, ◌*◌, ◌<◌, ◌≤◌, Bool, true, false, not, List, [], ◌∷◌, ◌++◌, ◌⊎◌, length, Some, Ok, Err, Result, sym, refl, ap, ◌∙◌, subst, inl, inr, mul-le-mul_right, add-mul, add-one, arith}
+use Rattle.std.proofs.Common.{◌≡◌, ℕ, suc, ◌+◌, ◌*◌, ◌<◌, ◌≤◌, Bool, true, false, not, List, [], ◌∷◌, ◌++◌, ◌⊎◌}
+use Rattle.std.proofs.Common.{length, Some, Ok, Err, Result, sym, refl, ap, ◌∙◌, subst, inl, inr, mul-le-mul_right}
+use Rattle.std.proofs.Common.{add-mul, add-one, arith}
 use Rattle.std.proofs.lemmas.Bool.{cases_lt, lt-ltb, le-leb}
 use Rattle.std.specs.List.{range_with_len}
 use Rattle.element.specs.Algebra.{Algebra, Lawful}
@@ -13,9 +15,10 @@ use Rattle.protocol.specs.declared.tally.Tally.{Tally}
 use Rattle.protocol.specs.declared.tally.TurnCounts.{TurnCounts}
 use Rattle.protocol.specs.declared.fault.RunFault.{RunFault}
 use Rattle.exchange.specs.Calls.{TurnAnswers, turn_fault}
-use Rattle.exchange.specs.Going.{LaidPlan, Carried, Goes_on}
+use Rattle.exchange.specs.Going.{LaidPlan, Carried, GoesOn}
 use Rattle.exchange.proofs.Promises.{carried_nowhere, carried_on, carried_further}
-use Rattle.circles.specs.Circles.{circles, TurnedBelow, CircleAnswers, Circled, SettleAnswers, Settles, UnsettledCircles, none, one_more}
+use Rattle.circles.specs.Circles.{circles, TurnedBelow, CircleAnswers, Circled, SettleAnswers, Settles}
+use Rattle.circles.specs.Circles.{UnsettledCircles, none, one_more}
 
 pub unsettled_from : (b : Bool) → not b ≡ false → b ≡ true
 unsettled_from true e = refl
@@ -35,7 +38,7 @@ module _ {M : Type 0} (A : Algebra M) (law : Lawful A) (boards : ℕ) (records :
     -- the next board turns
     pub next_board_turned : (m m₁ m₂ : Moment M) (p : ℕ) (n : TurnCounts) → Below p m m₁
         → TurnAnswers A boards records edges p m₁ m₂ (Ok n)
-        → ((s : Scene) → LaidPlan s boards records edges → Goes_on A s p m₁ m₂ (Ok n))
+        → ((s : Scene) → LaidPlan s boards records edges → GoesOn A s p m₁ m₂ (Ok n))
         → Below (p + 1) m m₂
     next_board_turned m m₁ m₂ p n so_far answer goes =
         let one = ap (λ (t : Tally). t.turns) answer.1.counted in
@@ -80,7 +83,11 @@ module _ {M : Type 0} (A : Algebra M) (law : Lawful A) (boards : ℕ) (records :
       | inl left ↦ elim (cases_lt (length m.copies) (length records)) [
         | inl short ↦ inr short
         | inr room ↦
-            let none = rw (lt-ltb p boards l, lt-ltb m.tally.turns turn_limit left, le-leb (length records) (length m.copies) (omega arith)) at some in
+            let none = rw (
+              lt-ltb p boards l,
+              lt-ltb m.tally.turns turn_limit left,
+              le-leb (length records) (length m.copies) (omega arith),
+            ) at some in
             absurd (cc)
       ]
     ]

@@ -1,5 +1,6 @@
 -- Circles of turns, each board once, ascending.
-use Rattle.std.specs.Prelude.{◌≡◌, ℕ, zero, suc, ◌+◌, ◌*◌, ◌<◌, ◌≤◌, ◌⊎◌, Bool, true, false, not, List, [], ◌++◌, length, Some, Ok, Err, Result, nat_lt}
+use Rattle.std.specs.Prelude.{◌≡◌, ℕ, zero, suc, ◌+◌, ◌*◌, ◌<◌, ◌≤◌, ◌⊎◌, Bool, true, false, not, List, [], ◌++◌}
+use Rattle.std.specs.Prelude.{length, Some, Ok, Err, Result, nat_lt}
 use Rattle.std.specs.List.{range_with_len}
 use Rattle.element.specs.Algebra.{Algebra}
 use Rattle.plan.specs.Links.{shape}

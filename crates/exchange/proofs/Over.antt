@@ -1,5 +1,6 @@
 -- A run that begins again after another one: what that left past the plan's copies is what stood there before.
-use Rattle.std.proofs.Common.{◌≡◌, ℕ, ◌+◌, ◌-◌, cond, eqb, leb, List, ◌++◌, length, drop, Some, None, Option, Result, sym, ap, ◌∙◌, inl, inr, arith}
+use Rattle.std.proofs.Common.{◌≡◌, ℕ, ◌+◌, ◌-◌, cond, eqb, leb, List, ◌++◌, length, drop, Some, None, Option, Result}
+use Rattle.std.proofs.Common.{sym, ap, ◌∙◌, inl, inr, arith}
 use Rattle.std.proofs.lemmas.List.{ext_get_or, drop_at, get_or-drop, length-drop, length-map}
 use Rattle.element.specs.Algebra.{Algebra}
 use Rattle.medium.specs.Lanes.{Lanes}

@@ -1,5 +1,7 @@
 -- Every run that a call carries on keeps the promise.
-use Rattle.std.proofs.Common.{◌≡◌, ℕ, zero, suc, ◌+◌, ◌*◌, ◌/◌, ◌%◌, ◌<◌, false, cond, List, [], ◌∷◌, ◌++◌, length, get_or, drop, replicate, Ok, Err, Result, sym, refl, ap, ◌∙◌, subst, ap₂, inl, inr, append_assoc, append-nil, arith}
+use Rattle.std.proofs.Common.{◌≡◌, ℕ, zero, suc, ◌+◌, ◌*◌, ◌/◌, ◌%◌, ◌<◌, false, cond, List, [], ◌∷◌, ◌++◌, length}
+use Rattle.std.proofs.Common.{get_or, drop, replicate, Ok, Err, Result, sym, refl, ap, ◌∙◌, subst, ap₂, inl, inr}
+use Rattle.std.proofs.Common.{append_assoc, append-nil, arith}
 use Rattle.std.proofs.lemmas.List.{length-append, length-map, get_or_append_left, get_or-map}
 use Rattle.std.proofs.lemmas.Bool.{cases_lt, lt-ltb, le-ltb}
 use Rattle.element.specs.Algebra.{Algebra, Lawful}
@@ -19,7 +21,7 @@ use Rattle.sums.proofs.Contributions.{cond_same}
 use Rattle.protocol.specs.declared.fault.RunFault.{RunFault}
 use Rattle.exchange.specs.Calls.{IdleBefore, TurnAnswers}
 use Rattle.sums.specs.Sums.{loaded_copies}
-use Rattle.exchange.specs.Going.{LaidPlan, OwnSums, Kept, Goes_on, Carried}
+use Rattle.exchange.specs.Going.{LaidPlan, OwnSums, Kept, GoesOn, Carried}
 
 get_or_of_same : {X : Type 0} (n k : ℕ) (x : X) → get_or (replicate n x) k x ≡ x
 get_or_of_same zero k x = refl
@@ -61,7 +63,7 @@ module _ {M : Type 0} (A : Algebra M) (law : Lawful A) (s : Scene) where
 
   turn_goes_on : (boards : ℕ) (copies : List CopyRecord) (edges : List Edge) → LaidPlan s boards copies edges
       → (p : ℕ) (m m' : Moment M) (n : TurnCounts) → Turn A (shape boards edges) p m m'
-      → n ≡ counts A (shape boards edges) (seen A m) (seen A m') p → Goes_on A s p m m' (Ok n)
+      → n ≡ counts A (shape boards edges) (seen A m) (seen A m') p → GoesOn A s p m m' (Ok n)
   turn_goes_on boards copies edges plan p m m' n t e ts book losses r =
       let t' : Turn A (laid A s) p m m' =
       subst (λ b. Turn A (shape b (laid_edges s)) p m m') plan.same_boards
@@ -81,7 +83,7 @@ module _ {M : Type 0} (A : Algebra M) (law : Lawful A) (s : Scene) where
 
   pub answer_goes_on : (boards : ℕ) (records : List CopyRecord) (edges : List Edge) → LaidPlan s boards records edges
       → (p : ℕ) (m m' : Moment M) (r : Result TurnCounts RunFault) → TurnAnswers A boards records edges p m m' r
-      → Goes_on A s p m m' r
+      → GoesOn A s p m m' r
   answer_goes_on boards records edges plan p m m' (Ok n) (none, t, e) =
       turn_goes_on boards records edges plan p m m' n t e
   answer_goes_on boards records edges plan p m m' (Err f) (some, e) = still_goes_on plan.sound m m' e
@@ -92,7 +94,7 @@ module _ {M : Type 0} (A : Algebra M) (law : Lawful A) (s : Scene) where
 
   -- one more turn
   pub carried_on : (m m₁ m₂ : Moment M) (us : List ℕ) (p : ℕ) (n : TurnCounts) → Carried A s m m₁ us
-      → Goes_on A s p m₁ m₂ (Ok n) → Carried A s m m₂ (us ++ (p ∷ []))
+      → GoesOn A s p m₁ m₂ (Ok n) → Carried A s m m₂ (us ++ (p ∷ []))
   carried_on m m₁ m₂ us p n c t ts book losses r =
       let (book₁, losses₁, k) = c ts book losses r in
       let book₂ : Book = fed (laid A s) p m₁.lanes book₁ in (

@@ -1,7 +1,9 @@
 -- What reports, an end and what is shown say of a run: they follow the book, and shown copies are totals.
-use Rattle.std.proofs.Common.{◌≡◌, ℕ, ◌+◌, ◌<◌, ◌≤◌, true, false, cond, not, nat_lt, Ok, Err, List, map, length, get_or, take, drop, sym, refl, ap, ◌∙◌, subst, ap₂, inl, inr, arith}
+use Rattle.std.proofs.Common.{◌≡◌, ℕ, ◌+◌, ◌<◌, ◌≤◌, true, false, cond, not, nat_lt, Ok, Err, List, map, length}
+use Rattle.std.proofs.Common.{get_or, take, drop, sym, refl, ap, ◌∙◌, subst, ap₂, inl, inr, arith}
 use Rattle.std.proofs.ByRecursion.{All-get_or}
-use Rattle.std.proofs.lemmas.List.{ext_get_or, length-take, length-drop, length-map, get_or-take, get_or-drop, get_or-map, take_all}
+use Rattle.std.proofs.lemmas.List.{ext_get_or, length-take, length-drop, length-map, get_or-take, get_or-drop}
+use Rattle.std.proofs.lemmas.List.{get_or-map, take_all}
 use Rattle.std.proofs.lemmas.Bool.{cases_Bool, both_ways, cases_lt, lt-ltb, le-ltb}
 use Rattle.element.specs.Algebra.{Algebra, Lawful}
 use Rattle.scene.specs.Cells.{Scene}

@@ -1,5 +1,6 @@
 -- What the calls of a run answer, and what they leave.
-use Rattle.std.specs.Prelude.{◌≡◌, ℕ, ◌/◌, ◌%◌, ◌<◌, cond, List, [], length, Some, None, Ok, Err, Option, Result, nat_le, nat_lt}
+use Rattle.std.specs.Prelude.{◌≡◌, ℕ, ◌/◌, ◌%◌, ◌<◌, cond, List, [], length, Some, None, Ok, Err, Option, Result}
+use Rattle.std.specs.Prelude.{nat_le, nat_lt}
 use Rattle.std.specs.Borrow.{Bor}
 use Rattle.element.specs.Algebra.{Algebra}
 use Rattle.medium.specs.Lanes.{Lanes}

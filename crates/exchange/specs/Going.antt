@@ -1,5 +1,6 @@
 -- How calls carry a run, and its promise, from one moment to the next.
-use Rattle.std.specs.Prelude.{◌≡◌, ℕ, ◌+◌, ◌<◌, ◌≤◌, ◌⊎◌, List, [], ◌∷◌, ◌++◌, map, length, get_or, take, drop, replicate, Some, None, Ok, Err, Result, slice_index_or}
+use Rattle.std.specs.Prelude.{◌≡◌, ℕ, ◌+◌, ◌<◌, ◌≤◌, ◌⊎◌, List, [], ◌∷◌, ◌++◌, map, length, get_or, take, drop}
+use Rattle.std.specs.Prelude.{replicate, Some, None, Ok, Err, Result, slice_index_or}
 use Rattle.element.specs.Algebra.{Algebra}
 use Rattle.medium.specs.Lanes.{Lanes}
 use Rattle.scene.specs.Cells.{Scene, Sound}
@@ -43,10 +44,10 @@ pub record Kept {M : Type 0} (A : Algebra M) (s : Scene) (ts : List ℕ) (m : Mo
   pub promise : Promise A s ts m book losses
 
 -- an accepted turn carries every run on, and the promise with it; a refused one leaves it where it is
-abbrev pub Goes_on : {M : Type 0} → Algebra M → Scene → ℕ → Moment M → Moment M → Result TurnCounts RunFault → Type 0
-Goes_on A s p m m' (Ok n) = (ts : List ℕ) (book : Book) (losses : ℕ) → Run A s ts m book losses
+abbrev pub GoesOn : {M : Type 0} → Algebra M → Scene → ℕ → Moment M → Moment M → Result TurnCounts RunFault → Type 0
+GoesOn A s p m m' (Ok n) = (ts : List ℕ) (book : Book) (losses : ℕ) → Run A s ts m book losses
     → Kept A s (ts ++ (p ∷ [])) m' (fed (laid A s) p m.lanes book) (losses + n.lost)
-Goes_on A s p m m' (Err f) = (ts : List ℕ) (book : Book) (losses : ℕ) → Run A s ts m book losses
+GoesOn A s p m m' (Err f) = (ts : List ℕ) (book : Book) (losses : ℕ) → Run A s ts m book losses
     → Kept A s ts m' book losses
 
 -- every run that was at m is at m' after the turns of these boards, and keeps its promise

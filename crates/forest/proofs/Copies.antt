@@ -1,5 +1,6 @@
 -- The laid copies: each stands at its number, and they rise by board, then vertex.
-use Rattle.std.proofs.Common.{◌≡◌, ℕ, suc, ◌+◌, ◌<◌, true, ◌⊎◌, List, ◌∷◌, ◌++◌, map, length, get_or, filter, sym, refl, ap, ◌∙◌, inl, inr, arith}
+use Rattle.std.proofs.Common.{◌≡◌, ℕ, suc, ◌+◌, ◌<◌, true, ◌⊎◌, List, ◌∷◌, ◌++◌, map, length, get_or, filter, sym}
+use Rattle.std.proofs.Common.{refl, ap, ◌∙◌, inl, inr, arith}
 use Rattle.std.specs.List.{range_with_len, AllByRecursion}
 use Rattle.std.proofs.lemmas.List.{append_assoc, map-append, length-append, length-map, get_or_at}
 use Rattle.std.proofs.ByRecursion.{All-weaker, All-get_or, All-map}
@@ -42,7 +43,8 @@ module _ (s : Scene) where
             ∙ ap (λ xs. copies_before s p ++ (xs ++ others))
             (ap (map (copy p)) k ∙ map-append (copy p) (filter (keeps s p) (range_with_len 0 v)) (v ∷ later))
             ∙ ap (λ xs. copies_before s p ++ xs)
-            (append_assoc (map (copy p) (filter (keeps s p) (range_with_len 0 v))) (copy p v ∷ map (copy p) later) others)
+            (append_assoc (map (copy p) (filter (keeps s p) (range_with_len 0 v)))
+            (copy p v ∷ map (copy p) later) others)
             ∙ sym (append_assoc (copies_before s p) (map (copy p) (filter (keeps s p) (range_with_len 0 v)))
             (copy p v ∷ (map (copy p) later ++ others))),
       )

@@ -1,8 +1,10 @@
 -- The laid edges: each names its two copies, they rise, and those between two boards are the edges of that pair.
-use Rattle.std.proofs.Common.{◌≡◌, ℕ, ◌+◌, ◌<◌, ◌≤◌, true, false, not, eqb, ◌≢◌, ◌⊎◌, [], length, get_or, sum_by, filter, sym, refl, ap, ◌∙◌, subst, inl, inr, arith}
+use Rattle.std.proofs.Common.{◌≡◌, ℕ, ◌+◌, ◌<◌, ◌≤◌, true, false, not, eqb, ◌≢◌, ◌⊎◌, [], length, get_or, sum_by}
+use Rattle.std.proofs.Common.{filter, sym, refl, ap, ◌∙◌, subst, inl, inr, arith}
 use mathlib.Core.Path.{fun_ext}
 use Rattle.std.specs.List.{range_with_len, AllByRecursion}
-use Rattle.std.proofs.lemmas.Bool.{cases_Bool, eqb-true, eqb-false, eq-eqb, ne_eqb, and_parts, and_from, and_left, and_right, not-true}
+use Rattle.std.proofs.lemmas.Bool.{cases_Bool, eqb-true, eqb-false, eq-eqb, ne_eqb, and_parts, and_from, and_left}
+use Rattle.std.proofs.lemmas.Bool.{and_right, not-true}
 use Rattle.std.proofs.ByRecursion.{All-weaker, All-get_or, All-map, all_kept_by, kept_by_passes}
 use Rattle.plan.specs.declared.records.Edge.{Edge}
 use Rattle.plan.specs.Links.{no_copy, no_edge, joins, edges_between}
@@ -201,7 +203,8 @@ module _ (s : Scene) where
 
   pub between_once : (p q m k : ℕ) → m < length (edges_between (laid_edges s) p q)
       → k < length (edges_between (laid_edges s) p q)
-      → get_or (edges_between (laid_edges s) p q) m no_edge ≡ get_or (edges_between (laid_edges s) p q) k no_edge → m ≡ k
+      → get_or (edges_between (laid_edges s) p q) m no_edge ≡ get_or (edges_between (laid_edges s) p q) k no_edge
+      → m ≡ k
   between_once p q =
       ordered_once EdgeBefore edge_not_before_itself (edges_between (laid_edges s) p q) no_edge
       (ordered_kept EdgeBefore (joins p q) (laid_edges s) edges_rise)
@@ -211,7 +214,8 @@ module _ (s : Scene) where
       → (m : ℕ)
       × (m < length (edges_between (laid_edges s)
       (get_or (laid_edges s) e no_edge).from (get_or (laid_edges s) e no_edge).to))
-      × (get_or (edges_between (laid_edges s) (get_or (laid_edges s) e no_edge).from (get_or (laid_edges s) e no_edge).to)
+      × (get_or (edges_between (laid_edges s) (get_or (laid_edges s) e no_edge).from
+      (get_or (laid_edges s) e no_edge).to)
       m no_edge ≡ get_or (laid_edges s) e no_edge)
   edge_between e l =
       let x : Edge = get_or (laid_edges s) e no_edge in

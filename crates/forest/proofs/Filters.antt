@@ -1,5 +1,6 @@
 -- Filters and joins of the numbers from a on.
-use Rattle.std.proofs.Common.{◌≡◌, ℕ, zero, suc, ◌+◌, ◌<◌, ◌≤◌, Bool, true, false, ◌≢◌, List, [], ◌∷◌, ◌++◌, length, sum_by, filter, sym, refl, ap, ◌∙◌, ap₂, inl, inr, arith}
+use Rattle.std.proofs.Common.{◌≡◌, ℕ, zero, suc, ◌+◌, ◌<◌, ◌≤◌, Bool, true, false, ◌≢◌, List, [], ◌∷◌, ◌++◌, length}
+use Rattle.std.proofs.Common.{sum_by, filter, sym, refl, ap, ◌∙◌, ap₂, inl, inr, arith}
 use Rattle.std.specs.List.{range_with_len, flat_map, AllByRecursion}
 use Rattle.std.proofs.lemmas.List.{append-nil, append_assoc, length-append}
 use Rattle.std.proofs.lemmas.Bool.{cases_eq, cases_Bool, cond-true}
@@ -36,7 +37,8 @@ counting_next n = ap (range_with_len 0) next ∙ counting_split 0 n 1 ∙ ap (λ
     at_n = omega arith
 
 -- the numbers below n, cut at p
-pub counting_cut : (p n : ℕ) → p < n → (r : ℕ) × (range_with_len 0 n ≡ range_with_len 0 p ++ (p ∷ range_with_len (p + 1) r))
+pub counting_cut : (p n : ℕ) → p < n
+    → (r : ℕ) × (range_with_len 0 n ≡ range_with_len 0 p ++ (p ∷ range_with_len (p + 1) r))
 counting_cut p n l = cut _ (rest p n l).1
   where
     rest : (p n : ℕ) → p < n → (r : ℕ) × (n ≡ p + suc r)
@@ -48,9 +50,13 @@ counting_cut p n l = cut _ (rest p n l).1
     at_p : 0 + p ≡ p
     at_p = omega arith
 
-    cut : (r : ℕ) → n ≡ p + suc r → (r : ℕ) × (range_with_len 0 n ≡ range_with_len 0 p ++ (p ∷ range_with_len (p + 1) r))
-    cut r e =
-        (r, ap (range_with_len 0) e ∙ counting_split 0 p (suc r) ∙ ap (λ b. range_with_len 0 p ++ range_with_len b (suc r)) at_p)
+    cut : (r : ℕ) → n ≡ p + suc r
+        → (r : ℕ) × (range_with_len 0 n ≡ range_with_len 0 p ++ (p ∷ range_with_len (p + 1) r))
+    cut r e = (
+      r,
+      ap (range_with_len 0) e ∙ counting_split 0 p (suc r)
+          ∙ ap (λ b. range_with_len 0 p ++ range_with_len b (suc r)) at_p,
+    )
 
 -- what a filter of 0, 1, 2 .. keeps
 pub kept_within : (t : ℕ → Bool) (a n : ℕ)
@@ -91,10 +97,14 @@ module _ {X : Type 0} where
   pub joined_cut : (f : ℕ → List X) (p n : ℕ) → p < n
       → (rest : List X) × (flat_map f (range_with_len 0 n) ≡ flat_map f (range_with_len 0 p) ++ (f p ++ rest))
   joined_cut f p n l =
-      let (r, e) = counting_cut p n l in
-      (flat_map f (range_with_len (p + 1) r), ap (flat_map f) e ∙ joined_append f (range_with_len 0 p) (p ∷ range_with_len (p + 1) r))
+      let (r, e) = counting_cut p n l in (
+        flat_map f (range_with_len (p + 1) r),
+        ap (flat_map f) e
+            ∙ joined_append f (range_with_len 0 p) (p ∷ range_with_len (p + 1) r),
+      )
 
-  pub joined_next : (f : ℕ → List X) (n : ℕ) → flat_map f (range_with_len 0 (suc n)) ≡ flat_map f (range_with_len 0 n) ++ f n
+  pub joined_next : (f : ℕ → List X) (n : ℕ)
+      → flat_map f (range_with_len 0 (suc n)) ≡ flat_map f (range_with_len 0 n) ++ f n
   joined_next f n =
       ap (flat_map f) (counting_next n) ∙ joined_append f (range_with_len 0 n) (n ∷ [])
       ∙ ap (λ zs. flat_map f (range_with_len 0 n) ++ zs) (append-nil (f n))
@@ -122,11 +132,13 @@ module _ {X : Type 0} where
       ∙ sym (sum_by-cons (λ y. length (f y)) y ys)
 
   pub kept_joined_none : (t : X → Bool) (f : ℕ → List X) (a n : ℕ)
-      → ((k : ℕ) → a ≤ k → k < a + n → AllByRecursion (λ x. t x ≡ false) (f k)) → filter t (flat_map f (range_with_len a n)) ≡ []
+      → ((k : ℕ) → a ≤ k → k < a + n → AllByRecursion (λ x. t x ≡ false) (f k))
+      → filter t (flat_map f (range_with_len a n)) ≡ []
   kept_joined_none t f a n h = kept_none t _ (all_joined (λ x. t x ≡ false) f a n h)
 
   -- a filter that only elements of the list number p pass
-  pub kept_joined : (t : X → Bool) (f : ℕ → List X) (p : ℕ) → ((k : ℕ) → k ≢ p → AllByRecursion (λ x. t x ≡ false) (f k))
+  pub kept_joined : (t : X → Bool) (f : ℕ → List X) (p : ℕ)
+      → ((k : ℕ) → k ≢ p → AllByRecursion (λ x. t x ≡ false) (f k))
       → (a n : ℕ) → a ≤ p → p < a + n → filter t (flat_map f (range_with_len a n)) ≡ filter t (f p)
   kept_joined t f p h a zero l g = absurd (omega arith)
   kept_joined t f p h a (suc n) l g = filter-append t (f a) _ ∙ elim (cases_eq a p) [

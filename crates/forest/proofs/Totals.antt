@@ -1,5 +1,6 @@
 -- Totals: the undivided total is the join of the boards' own sums, and the edges bring them to the root.
-use Rattle.std.proofs.Common.{◌≡◌, ℕ, zero, suc, ◌<◌, Bool, true, false, cond, ◌&&◌, eqb, ◌≢◌, List, [], ◌∷◌, map, length, get_or, filter, sym, refl, ap, ◌∙◌, subst, ap₂, inl, inr, arith}
+use Rattle.std.proofs.Common.{◌≡◌, ℕ, zero, suc, ◌<◌, Bool, true, false, cond, ◌&&◌, eqb, ◌≢◌, List, [], ◌∷◌, map}
+use Rattle.std.proofs.Common.{length, get_or, filter, sym, refl, ap, ◌∙◌, subst, ap₂, inl, inr, arith}
 use Rattle.std.specs.List.{range_with_len, AllByRecursion}
 use Rattle.std.proofs.lemmas.List.{map-append}
 use Rattle.std.proofs.lemmas.Simd.{map-map}
@@ -84,12 +85,14 @@ module _ {E : Type 0} (A : Algebra E) (L : Lawful A) where
   join_below_list f (x ∷ xs) d =
       join_below_front (length xs) (λ m. f (get_or (x ∷ xs) m d)) ∙ ap (A.join (f x)) (join_below_list f xs d)
 
-  join_none : {X : Type 0} (f : X → E) (xs : List X) → AllByRecursion (λ x. f x ≡ A.zero) xs → join_all A (map f xs) ≡ A.zero
+  join_none : {X : Type 0} (f : X → E) (xs : List X) → AllByRecursion (λ x. f x ≡ A.zero) xs
+      → join_all A (map f xs) ≡ A.zero
   join_none f [] h = refl
   join_none f (x ∷ xs) h = rw (h.0, join_none f xs h.1) (L.zero_join A.zero)
 
   -- of rising numbers, one alone counts
-  join_one : (f : ℕ → E) (v : ℕ) (xs : List ℕ) → AllByRecursion (λ x. x ≢ v → f x ≡ A.zero) xs → Ordered (λ x y. x < y) xs
+  join_one : (f : ℕ → E) (v : ℕ) (xs : List ℕ) → AllByRecursion (λ x. x ≢ v → f x ≡ A.zero) xs
+      → Ordered (λ x y. x < y) xs
       → Among v xs → join_all A (map f xs) ≡ f v
   join_one f v [] h o m = absurd m
   join_one f v (x ∷ xs) h o m = elim (cases_eq x v) [
@@ -102,7 +105,8 @@ module _ {E : Type 0} (A : Algebra E) (L : Lawful A) where
         ∙ L.zero_join (f v)
   ]
     where
-      later : (ys : List ℕ) → AllByRecursion (λ x. x ≢ v → f x ≡ A.zero) ys → AllByRecursion (λ y. y ≢ v) ys → AllByRecursion (λ x. f x ≡ A.zero) ys
+      later : (ys : List ℕ) → AllByRecursion (λ x. x ≢ v → f x ≡ A.zero) ys → AllByRecursion (λ y. y ≢ v) ys
+          → AllByRecursion (λ x. f x ≡ A.zero) ys
       later [] a b = tt
       later (y ∷ ys) a b = (a.0 b.0, later ys a.1 b.1)
 

@@ -1,5 +1,6 @@
 -- The star forest of a scene: who keeps a copy of which vertex, who owns it, and the edges from ghosts to roots.
-use Rattle.std.specs.Prelude.{ℕ, zero, suc, ◌+◌, Bool, false, cond, not, ◌&&◌, ◌||◌, List, [], ◌∷◌, map, length, filter, ◌==◌, nat_eq, nat_lt}
+use Rattle.std.specs.Prelude.{ℕ, zero, suc, ◌+◌, Bool, false, cond, not, ◌&&◌, ◌||◌, List, [], ◌∷◌, map, length}
+use Rattle.std.specs.Prelude.{filter, ◌==◌, nat_eq, nat_lt}
 use Rattle.std.specs.List.{range_with_len, flat_map}
 use Rattle.scene.specs.Cells.{Cell, Scene}
 use Rattle.plan.specs.declared.records.CopyRecord.{CopyRecord}

@@ -1,5 +1,6 @@
 -- What a laid plan is: a star forest on the copies of the scene's vertices.
-use Rattle.std.specs.Prelude.{◌≡◌, ℕ, suc, ◌<◌, ◌≤◌, Bool, true, not, ◌≢◌, ◌⊎◌, List, length, filter, ◌==◌, slice_index_or}
+use Rattle.std.specs.Prelude.{◌≡◌, ℕ, suc, ◌<◌, ◌≤◌, Bool, true, not, ◌≢◌, ◌⊎◌, List, length, filter, ◌==◌}
+use Rattle.std.specs.Prelude.{slice_index_or}
 use Rattle.std.specs.List.{ContainsAt as Has}
 use Rattle.scene.specs.Cells.{Cell, Scene, Sound}
 use Rattle.plan.specs.declared.records.CopyRecord.{CopyRecord}

@@ -1,6 +1,8 @@
 -- A list whose front has moved one place down.
-use Rattle.std.proofs.Common.{◌≡◌, ℕ, ◌+◌, ◌-◌, ◌<◌, ◌≤◌, List, [], ◌∷◌, ◌++◌, length, get_or, take, drop, set, sym, ap, ◌∙◌, arith}
-use Rattle.std.proofs.lemmas.List.{append_assoc, drop_more, drop-take, get_or-append_right, get_or-drop, length-drop, length-take-le, set-append_right, take-append-le, take_more, take-take}
+use Rattle.std.proofs.Common.{◌≡◌, ℕ, ◌+◌, ◌-◌, ◌<◌, ◌≤◌, List, [], ◌∷◌, ◌++◌, length, get_or, take, drop, set, sym}
+use Rattle.std.proofs.Common.{ap, ◌∙◌, arith}
+use Rattle.std.proofs.lemmas.List.{append_assoc, drop_more, drop-take, get_or-append_right, get_or-drop, length-drop}
+use Rattle.std.proofs.lemmas.List.{length-take-le, set-append_right, take-append-le, take_more, take-take}
 
 module _ {X : Type 0} where
   -- the first i places have what stood one place above

@@ -1,5 +1,6 @@
 -- What a queue keeps in its lanes, and what a put and a take make of it.
-use Rattle.std.specs.Prelude.{◌≡◌, ℕ, ◌+◌, ◌*◌, Bool, false, cond, ◌&&◌, List, [], ◌∷◌, ◌++◌, map, length, take, nat_lt, slice_index_or}
+use Rattle.std.specs.Prelude.{◌≡◌, ℕ, ◌+◌, ◌*◌, Bool, false, cond, ◌&&◌, List, [], ◌∷◌, ◌++◌, map, length, take}
+use Rattle.std.specs.Prelude.{nat_lt, slice_index_or}
 use Rattle.medium.specs.Lanes.{Lanes, appended, is_lane, shortened}
 use Rattle.medium.specs.Puts.{Puts, Takes}
 use Rattle.medium.specs.declared.frame.Frame.{Frame}

@@ -1,5 +1,6 @@
 -- The lanes of a medium, and what a put and a take make of them.
-use Rattle.std.specs.Prelude.{◌≡◌, ℕ, Bool, false, cond, ◌&&◌, List, [], ◌∷◌, ◌++◌, drop, replicate, Some, None, Option, ◌==◌, nat_lt}
+use Rattle.std.specs.Prelude.{◌≡◌, ℕ, Bool, false, cond, ◌&&◌, List, [], ◌∷◌, ◌++◌, drop, replicate, Some, None}
+use Rattle.std.specs.Prelude.{Option, ◌==◌, nat_lt}
 use Rattle.medium.specs.declared.frame.Frame.{Frame}
 
 -- the frames waiting from the first board to the second, oldest first

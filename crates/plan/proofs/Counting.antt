@@ -1,5 +1,6 @@
 -- The table of link starts: counts of the edges of each link, and their sums.
-use Rattle.std.proofs.Common.{◌≡◌, ℕ, ◌+◌, ◌<◌, ◌≤◌, Bool, true, false, cond, eqb, List, length, get_or, take, set, filter, sym, refl, ap, ◌∙◌, inl, inr, add-one, arith}
+use Rattle.std.proofs.Common.{◌≡◌, ℕ, ◌+◌, ◌<◌, ◌≤◌, Bool, true, false, cond, eqb, List, length, get_or, take, set}
+use Rattle.std.proofs.Common.{filter, sym, refl, ap, ◌∙◌, inl, inr, add-one, arith}
 use mir.Val.{bool_byte}
 use Rattle.std.proofs.lemmas.List.Filters.{length-filter_more}
 use Rattle.std.proofs.lemmas.List.{get_or-set_same, get_or-set_other, length-take}

@@ -1,8 +1,10 @@
 -- What the rules of a plan give.
-use Rattle.std.proofs.Common.{◌≡◌, ℕ, ◌+◌, ◌-◌, ◌*◌, ◌<◌, ◌≤◌, Bool, true, not, ◌&&◌, eqb, ltb, leb, List, [], ◌∷◌, length, get_or, take, drop, filter, sym, refl, ap, ◌∙◌, inl, inr, arith}
+use Rattle.std.proofs.Common.{◌≡◌, ℕ, ◌+◌, ◌-◌, ◌*◌, ◌<◌, ◌≤◌, Bool, true, not, ◌&&◌, eqb, ltb, leb, List, [], ◌∷◌}
+use Rattle.std.proofs.Common.{length, get_or, take, drop, filter, sym, refl, ap, ◌∙◌, inl, inr, arith}
 use Rattle.std.specs.List.{AllByRecursion}
 use Rattle.std.proofs.ByRecursion.{All-weaker, All-get_or, all_kept_by}
-use Rattle.std.proofs.lemmas.Bool.{and_parts, not-true, cases_Bool, cases_order, ltb-true, leb-true, eqb-true, eqb-false}
+use Rattle.std.proofs.lemmas.Bool.{and_parts, not-true, cases_Bool, cases_order, ltb-true, leb-true, eqb-true}
+use Rattle.std.proofs.lemmas.Bool.{eqb-false}
 use Rattle.std.proofs.lemmas.Bool.Decides.{nat_tests}
 use Rattle.plan.specs.declared.records.CopyRecord.{CopyRecord}
 use Rattle.plan.specs.declared.records.Edge.{Edge}
@@ -214,7 +216,8 @@ module _
     between_rises m k l h = ordered_at _ (edges_between edges p q) no_edge between_ordered m k l h
 
     pub between_differ : (m k : ℕ) → m < length (edges_between edges p q) → k < length (edges_between edges p q)
-        → (get_or (edges_between edges p q) m no_edge).vertex ≡ (get_or (edges_between edges p q) k no_edge).vertex → m ≡ k
+        → (get_or (edges_between edges p q) m no_edge).vertex ≡ (get_or (edges_between edges p q) k no_edge).vertex
+        → m ≡ k
     between_differ m k l h e = elim (cases_order m k) [
       | inl s ↦ s
       | inr d ↦ elim d [

@@ -1,5 +1,6 @@
 -- The rules of a plan: which board counts, copies and edges make one.
-use Rattle.std.specs.Prelude.{ℕ, ◌-◌, Bool, true, not, ◌&&◌, ◌||◌, List, [], ◌∷◌, length, get_or, ◌==◌, nat_le, nat_lt, slice_index_or}
+use Rattle.std.specs.Prelude.{ℕ, ◌-◌, Bool, true, not, ◌&&◌, ◌||◌, List, [], ◌∷◌, length, get_or, ◌==◌, nat_le}
+use Rattle.std.specs.Prelude.{nat_lt, slice_index_or}
 use Rattle.plan.specs.declared.records.CopyRecord.{CopyRecord}
 use Rattle.plan.specs.declared.records.Edge.{Edge}
 use Rattle.plan.specs.Links.{no_copy}
@@ -25,7 +26,8 @@ in_place before none xs i x = i == 0 || before (slice_index_or xs (i - 1) none) 
 
 -- record number i fits, and stands in its place
 abbrev pub keeps_rules : {X : Type 0} → (X → Bool) → (X → X → Bool) → X → List X → ℕ → Bool
-keeps_rules fits before none xs i = fits (slice_index_or xs i none) && in_place before none xs i (slice_index_or xs i none)
+keeps_rules fits before none xs i =
+    fits (slice_index_or xs i none) && in_place before none xs i (slice_index_or xs i none)
 
 -- copies stand by board, then vertex
 abbrev pub copy_before : CopyRecord → CopyRecord → Bool

@@ -1,5 +1,6 @@
 -- Which frames pass at which count.
-use Rattle.std.proofs.Common.{◌≡◌, ℕ, suc, ◌<◌, Bool, true, false, not, ltb, List, [], ◌∷◌, Some, None, Option, refl, inl, inr, arith}
+use Rattle.std.proofs.Common.{◌≡◌, ℕ, suc, ◌<◌, Bool, true, false, not, ltb, List, [], ◌∷◌, Some, None, Option, refl}
+use Rattle.std.proofs.Common.{inl, inr, arith}
 use mathlib.Core.Bool.{beq}
 use Rattle.std.proofs.lemmas.Bool.{lt-ltb, and_parts, and_right, ltb-true, or_left, or_right}
 use Rattle.std.proofs.lemmas.Bool.Decides.{nat_tests}

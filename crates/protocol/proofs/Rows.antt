@@ -1,5 +1,6 @@
 -- Rows of frames: old ones first, on which a count stays; then new ones, which can raise it by one.
-use Rattle.std.proofs.Common.{◌≡◌, ℕ, zero, suc, ◌<◌, ◌≤◌, Bool, true, false, ◌⊎◌, List, [], ◌∷◌, ◌++◌, replicate, sym, refl, ◌∙◌, inl, inr, arith}
+use Rattle.std.proofs.Common.{◌≡◌, ℕ, zero, suc, ◌<◌, ◌≤◌, Bool, true, false, ◌⊎◌, List, [], ◌∷◌, ◌++◌, replicate}
+use Rattle.std.proofs.Common.{sym, refl, ◌∙◌, inl, inr, arith}
 use Rattle.std.specs.List.{AllByRecursion}
 use Rattle.std.proofs.lemmas.Bool.{cases_Bool, false≢true}
 use Rattle.std.proofs.ByRecursion.{All-append, All-weaker}
@@ -49,7 +50,8 @@ scan_grew t Q h c (f ∷ fs) l = elim (cases_Bool (t c f)) [
 ]
 
 -- frames none of which passes do nothing
-pub scan_quiet : (t : ℕ → Frame → Bool) (c : ℕ) (fs : List Frame) → AllByRecursion (λ f. t c f ≡ false) fs → scan t c fs ≡ c
+pub scan_quiet : (t : ℕ → Frame → Bool) (c : ℕ) (fs : List Frame) → AllByRecursion (λ f. t c f ≡ false) fs
+    → scan t c fs ≡ c
 scan_quiet t c [] h = refl
 scan_quiet t c (f ∷ fs) h = rw h.0 (scan_quiet t c fs h.1)
 
@@ -90,7 +92,8 @@ module _ (t : ℕ → Frame → Bool) (New : Frame → Type 0) (c : ℕ) where
 
   -- no new frame passes once the count is raised
   module _ (quiet : (f : Frame) → New f → t (suc c) f ≡ false) where
-    new_acts : {X : Type 0} (g : ℕ → Frame → X → X) (x : X) (fs : List Frame) → AllByRecursion New fs → Does t New c g x fs
+    new_acts : {X : Type 0} (g : ℕ → Frame → X → X) (x : X) (fs : List Frame) → AllByRecursion New fs
+        → Does t New c g x fs
     new_acts g x [] k = inl (refl, refl)
     new_acts g x (f ∷ fs) k = elim (cases_Bool (t c f)) [
       | inl e ↦

@@ -1,6 +1,7 @@
 -- One turn: its counts, what it puts, and which copies it writes.
 use Rattle.std.proofs.Common.{◌≡◌, ℕ, ◌<◌, ◌≤◌, true, ltb, ◌≢◌, ◌⊎◌, ap, ◌∙◌, inl, inr, arith}
-use Rattle.std.proofs.lemmas.Bool.{cases_eq, eq-eqb, cases_lt, lt-ltb, ltb-true, and_parts, and_from, or_cases, or_left, or_right}
+use Rattle.std.proofs.lemmas.Bool.{cases_eq, eq-eqb, cases_lt, lt-ltb, ltb-true, and_parts, and_from, or_cases}
+use Rattle.std.proofs.lemmas.Bool.{or_left, or_right}
 use Rattle.element.specs.Algebra.{Algebra}
 use Rattle.plan.specs.Links.{Shape, items}
 use Rattle.protocol.specs.Frames.{brings, tells_of}

@@ -1,5 +1,6 @@
 -- Frames against counts: which frame brings item j, and which tells that item i has arrived.
-use Rattle.std.specs.Prelude.{ℕ, suc, ◌%◌, Bool, true, false, cond, not, ◌&&◌, ◌||◌, List, [], ◌∷◌, Some, None, Option, ◌==◌, nat_lt}
+use Rattle.std.specs.Prelude.{ℕ, suc, ◌%◌, Bool, true, false, cond, not, ◌&&◌, ◌||◌, List, [], ◌∷◌, Some, None}
+use Rattle.std.specs.Prelude.{Option, ◌==◌, nat_lt}
 use Rattle.std.specs.Bool.{beq}
 use Rattle.element.specs.declared.words.Words.{Words}
 use Rattle.medium.specs.declared.frame.Frame.{Frame}

@@ -1,5 +1,6 @@
 -- Runs: every moment that turns of any boards, in any order, lead to from a fresh start.
-use Rattle.std.specs.Prelude.{◌≡◌, ℕ, ◌+◌, ◌-◌, ◌*◌, ◌<◌, ◌≤◌, cond, List, [], ◌∷◌, ◌++◌, length, get_or, slice_index_or}
+use Rattle.std.specs.Prelude.{◌≡◌, ℕ, ◌+◌, ◌-◌, ◌*◌, ◌<◌, ◌≤◌, cond, List, [], ◌∷◌, ◌++◌, length, get_or}
+use Rattle.std.specs.Prelude.{slice_index_or}
 use Rattle.element.specs.Algebra.{Algebra}
 use Rattle.medium.specs.Lanes.{Lanes, is_lane}
 use Rattle.scene.specs.Cells.{Scene}

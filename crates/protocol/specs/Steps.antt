@@ -1,6 +1,8 @@
 -- The steps that a turn's code makes, one frame, one lane, one board at a time; proofs/Receiving and proofs/Sending
 -- show that together they are a turn.
-use Rattle.std.specs.Prelude.{◌≡◌, ℕ, zero, suc, ◌+◌, ◌-◌, ◌*◌, ◌<◌, ◌≤◌, Bool, false, cond, ◌&&◌, ◌||◌, ◌≢◌, ◌⊎◌, List, [], ◌∷◌, ◌++◌, length, get_or, replicate, Some, None, ◌==◌, nat_lt, slice_index_or, slice_set}
+use Rattle.std.specs.Prelude.{◌≡◌, ℕ, zero, suc, ◌+◌, ◌-◌, ◌*◌, ◌<◌, ◌≤◌, Bool, false, cond, ◌&&◌, ◌||◌, ◌≢◌, ◌⊎◌}
+use Rattle.std.specs.Prelude.{List, [], ◌∷◌, ◌++◌, length, get_or, replicate, Some, None, ◌==◌, nat_lt}
+use Rattle.std.specs.Prelude.{slice_index_or, slice_set}
 use Rattle.element.specs.Algebra.{Algebra}
 use Rattle.element.specs.declared.words.Words.{Words}
 use Rattle.medium.specs.Lanes.{Lanes, same_lane}
@@ -44,7 +46,8 @@ module _ {M : Type 0} (A : Algebra M) (ups downs : List Edge) where
   -- the copies after item j is accepted, of those that rise along `ups` and come down along `downs`
   abbrev pub accepted_copies : ℕ → Words → List M → List M
   accepted_copies j w cs = cond (nat_lt j (length ups))
-      (slice_set cs (get_or ups j no_edge).root (A.join (slice_index_or cs (get_or ups j no_edge).root A.zero) (A.unpack w)))
+      (slice_set cs (get_or ups j no_edge).root (A.join (slice_index_or cs (get_or ups j no_edge).root A.zero)
+      (A.unpack w)))
       (slice_set cs (get_or downs (j - length ups) no_edge).leaf (A.unpack w))
 
   -- the value of item i, of those that rise along `ups` and come down along `downs`

@@ -1,5 +1,6 @@
 -- What a turn of one board makes of the counts, the copies and the lanes.
-use Rattle.std.specs.Prelude.{◌≡◌, ℕ, zero, suc, ◌+◌, ◌-◌, ◌<◌, ◌≤◌, Bool, true, false, cond, ◌&&◌, ◌||◌, ◌≢◌, ◌⊎◌, List, [], ◌++◌, length, replicate, Some, None, ◌==◌, nat_le, nat_lt}
+use Rattle.std.specs.Prelude.{◌≡◌, ℕ, zero, suc, ◌+◌, ◌-◌, ◌<◌, ◌≤◌, Bool, true, false, cond, ◌&&◌, ◌||◌, ◌≢◌, ◌⊎◌}
+use Rattle.std.specs.Prelude.{List, [], ◌++◌, length, replicate, Some, None, ◌==◌, nat_le, nat_lt}
 use Rattle.element.specs.Algebra.{Algebra}
 use Rattle.element.specs.declared.words.Words.{Words}
 use Rattle.medium.specs.Lanes.{Lanes}

@@ -1,5 +1,6 @@
 -- A run over a queue: what the rules of a turn and of a queue's puts make of it, board after board.
-use Rattle.std.specs.Prelude.{ℕ, ◌<◌, Bool, cond, not, ◌&&◌, List, [], ◌∷◌, ◌++◌, replicate, ◌==◌, nat_lt, slice_index_or}
+use Rattle.std.specs.Prelude.{ℕ, ◌<◌, Bool, cond, not, ◌&&◌, List, [], ◌∷◌, ◌++◌, replicate, ◌==◌, nat_lt}
+use Rattle.std.specs.Prelude.{slice_index_or}
 use Rattle.element.specs.Algebra.{Algebra}
 use Rattle.element.specs.Models.{depth_algebra}
 use Rattle.element.specs.declared.depth.Depth.{Depth}
@@ -55,7 +56,8 @@ module _ {M : Type 0} (A : Algebra M) (s : Scene) where
       i = λ a b. 0;
       j = λ a b. 0;
       lane = λ a b. [];
-      val = λ c. own_sum A s (slice_index_or (laid_copies s) c no_copy).board (slice_index_or (laid_copies s) c no_copy).vertex;
+      val = λ c. own_sum A s (slice_index_or (laid_copies s) c no_copy).board
+          (slice_index_or (laid_copies s) c no_copy).vertex;
     },
   )
 

@@ -1,5 +1,6 @@
 -- Lists that are made by counting: what stands at a place of them.
-use Rattle.std.proofs.Common.{◌≡◌, ℕ, zero, suc, ◌+◌, ◌<◌, ◌≤◌, map, length, get_or, Some, None, ap, ◌∙◌, subst, inl, inr, arith}
+use Rattle.std.proofs.Common.{◌≡◌, ℕ, zero, suc, ◌+◌, ◌<◌, ◌≤◌, map, length, get_or, Some, None, ap, ◌∙◌, subst, inl}
+use Rattle.std.proofs.Common.{inr, arith}
 use Rattle.std.specs.List.{slice_get, range_with_len, AllByRecursion}
 use Rattle.std.proofs.lemmas.List.FromFn.{length-map-range_with_len, get_or-map-range_with_len}
 use Rattle.std.proofs.lemmas.Bool.{cases_lt}
@@ -20,7 +21,8 @@ module _ {X : Type 0} (f : ℕ → X) (n i : ℕ) where
       slice_get_past (map f (range_with_len 0 n)) i past
 
 -- what holds at each number counted holds of all of them, and back
-pub all_counted : (P : ℕ → Type 0) (a n : ℕ) → ((i : ℕ) → a ≤ i → i < a + n → P i) → AllByRecursion P (range_with_len a n)
+pub all_counted : (P : ℕ → Type 0) (a n : ℕ) → ((i : ℕ) → a ≤ i → i < a + n → P i)
+    → AllByRecursion P (range_with_len a n)
 all_counted P a zero h = tt
 all_counted P a (suc n) h =
     let low : a ≤ a = omega arith in

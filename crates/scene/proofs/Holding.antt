@@ -54,5 +54,6 @@ module _ {F : Type 0} (f : ℕ → List (Rule F)) (a n : ℕ) where
   pub hold_at : all_hold (flat_map f (range_with_len a n)) ≡ true → (i : ℕ) → a ≤ i → i < a + n → all_hold (f i) ≡ true
   hold_at h = counted_all (λ i. all_hold (f i) ≡ true) a n (hold_joined f (range_with_len a n) h)
 
-  pub at_hold : ((i : ℕ) → a ≤ i → i < a + n → all_hold (f i) ≡ true) → all_hold (flat_map f (range_with_len a n)) ≡ true
+  pub at_hold : ((i : ℕ) → a ≤ i → i < a + n → all_hold (f i) ≡ true)
+      → all_hold (flat_map f (range_with_len a n)) ≡ true
   at_hold h = joined_hold f (range_with_len a n) (all_counted (λ i. all_hold (f i) ≡ true) a n h)

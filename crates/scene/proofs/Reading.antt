@@ -1,5 +1,6 @@
 -- What the readers of a cell answer, from where the cell begins.
-use Rattle.std.proofs.Common.{◌≡◌, ℕ, ◌+◌, ◌*◌, ◌<◌, ◌≤◌, List, length, get_or, Some, None, Option, sym, ap, ◌∙◌, inl, inr}
+use Rattle.std.proofs.Common.{◌≡◌, ℕ, ◌+◌, ◌*◌, ◌<◌, ◌≤◌, List, length, get_or, Some, None, Option, sym, ap, ◌∙◌, inl}
+use Rattle.std.proofs.Common.{inr}
 use Rattle.std.specs.List.{slice_get}
 use Rattle.std.proofs.lemmas.Option.{slice_get-get_or, slice_get_past}
 use Rattle.std.proofs.lemmas.Bool.{cases_lt, cond-true, cond-false, lt-ltb, le-ltb}
@@ -25,7 +26,8 @@ module _ (b : List ℕ) (c : ℕ) where
         | inr h ↦ nth_uncounted f n c h ∙ sym (ap (cell_from b) (cond-false _ _ _ (le-ltb c n h)))
       ]
 
-  pub absent : {X : Type 0} (f : Cell → Option X) → None ≡ start_of b c → None ≡ within f (slice_get (scene_of b).cells c)
+  pub absent : {X : Type 0} (f : Cell → Option X) → None ≡ start_of b c
+      → None ≡ within f (slice_get (scene_of b).cells c)
   absent f h = sym (ap (within f) (nth_cell ∙ ap (cell_from b) (sym h)))
 
   module _ (at : ℕ) (h : Some at ≡ start_of b c) where
@@ -38,7 +40,8 @@ module _ (b : List ℕ) (c : ℕ) where
 
     pub corner_read : (k : ℕ) → k < corners_of b → Some (number_at b (corner_place at k)) ≡ corner_of (scene_of b) c k
     corner_read k l =
-        sym (nth_counted (λ i. number_at b (corner_place at i)) (corners_of b) k l) ∙ present (λ x. slice_get x.corners k)
+        sym (nth_counted (λ i. number_at b (corner_place at i)) (corners_of b) k l)
+        ∙ present (λ x. slice_get x.corners k)
 
     pub corner_past : (k : ℕ) → corners_of b ≤ k → None ≡ corner_of (scene_of b) c k
     corner_past k l =

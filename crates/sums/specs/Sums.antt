@@ -1,5 +1,6 @@
 -- Own sums: what each copy holds when it is loaded, and the table that it is read from.
-use Rattle.std.specs.Prelude.{◌≡◌, ℕ, ◌+◌, ◌*◌, ◌<◌, ◌≤◌, List, ◌++◌, map, length, take, drop, Some, None, Ok, Err, Option, Result, nat_eq, slice_index_or, slice_set}
+use Rattle.std.specs.Prelude.{◌≡◌, ℕ, ◌+◌, ◌*◌, ◌<◌, ◌≤◌, List, ◌++◌, map, length, take, drop, Some, None, Ok, Err}
+use Rattle.std.specs.Prelude.{Option, Result, nat_eq, slice_index_or, slice_set}
 use Rattle.element.specs.Algebra.{Algebra}
 use Rattle.element.specs.Join.{join_all}
 use Rattle.element.specs.declared.words.Words.{Words}

@@ -1,5 +1,6 @@
 -- What a turn answers, and what it leaves of links, copies and lanes; the tally is the caller's.
-use Rattle.std.specs.Prelude.{◌≡◌, ℕ, ◌<◌, cond, ◌≢◌, List, [], length, get_or, Some, None, Ok, Err, Option, Result, nat_le, nat_lt, slice_index_or}
+use Rattle.std.specs.Prelude.{◌≡◌, ℕ, ◌<◌, cond, ◌≢◌, List, [], length, get_or, Some, None, Ok, Err, Option, Result}
+use Rattle.std.specs.Prelude.{nat_le, nat_lt, slice_index_or}
 use Rattle.element.specs.Algebra.{Algebra}
 use Rattle.medium.specs.Lanes.{Lanes}
 use Rattle.plan.specs.Links.{shape, no_copy}

@@ -1,5 +1,6 @@
 // The first half of a turn: taking what waits, replies before items.
-ghost use Rattle.std.specs.Prelude.{◌≡◌, ℕ, suc, ◌+◌, ◌*◌, ◌<◌, ◌≤◌, cond, ◌||◌, List, [], length, take, if◌then◌else◌, Some, None, ◌==◌};
+ghost use Rattle.std.specs.Prelude.{◌≡◌, ℕ, suc, ◌+◌, ◌*◌, ◌<◌, ◌≤◌, cond, ◌||◌, List, [], length, take};
+ghost use Rattle.std.specs.Prelude.{if◌then◌else◌, Some, None, ◌==◌};
 ghost use Rattle.medium.specs.Lanes.{shortened};
 ghost use Rattle.protocol.specs.Frames.{brings, some_item};
 ghost use Rattle.protocol.specs.Steps.{Fit, held, told, grown, accepted_copies, frame_step, frames_step};

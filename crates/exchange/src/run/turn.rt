@@ -5,7 +5,7 @@ ghost use Rattle.protocol.specs.Faults.{turn_limit};
 ghost use Rattle.protocol.specs.Runs.{moment, tallied};
 ghost use Rattle.turns.specs.Taken.{OwnCopiesAlone};
 ghost use Rattle.exchange.specs.Calls.{TurnAnswers};
-ghost use Rattle.exchange.specs.Going.{Goes_on, LaidPlan};
+ghost use Rattle.exchange.specs.Going.{GoesOn, LaidPlan};
 
 use super::Turning;
 use element::element::Element;
@@ -59,7 +59,7 @@ impl Turning {
             copies.new }
         ensures still { elim result [ Ok _ ↦ Unit {0} | Err _ ↦ medium.new ≡ medium.old ] }
         ensures promise { (s : Scene) → LaidPlan s plan.now.boards
-            plan.now.copies.now plan.now.edges.now → Goes_on E.Element.algebra s board
+            plan.now.copies.now plan.now.edges.now → GoesOn E.Element.algebra s board
             (moment self.old.tally table.old.links copies.old
             (D.Medium.lanes medium.old)) (moment self.new.tally table.new.links
             copies.new (D.Medium.lanes medium.new)) result }
