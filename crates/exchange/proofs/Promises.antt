@@ -61,7 +61,7 @@ module _ {M : Type 0} (A : Algebra M) (law : Lawful A) (s : Scene) where
     loaded = own.loaded;
   })
 
-  turn_goes_on : (boards : ℕ) (copies : List CopyRecord) (edges : List Edge) → LaidPlan s boards copies edges
+  pub turn_goes_on : (boards : ℕ) (copies : List CopyRecord) (edges : List Edge) → LaidPlan s boards copies edges
       → (p : ℕ) (m m' : Moment M) (n : TurnCounts) → Turn A (shape boards edges) p m m'
       → n ≡ counts A (shape boards edges) (seen A m) (seen A m') p → GoesOn A s p m m' (Ok n)
   turn_goes_on boards copies edges plan p m m' n t e ts book losses r =
@@ -76,7 +76,7 @@ module _ {M : Type 0} (A : Algebra M) (law : Lawful A) (s : Scene) where
       kept plan.sound (ts ++ (p ∷ [])) m' book' (losses + n.lost)
       (subst (λ k. Run A s (ts ++ (p ∷ [])) m' book' (losses + k)) same (turn p m' r t'))
 
-  still_goes_on : Sound s → (m m' : Moment M) → m' ≡ m
+  pub still_goes_on : Sound s → (m m' : Moment M) → m' ≡ m
       → (ts : List ℕ) (book : Book) (losses : ℕ) → Run A s ts m book losses → Kept A s ts m' book losses
   still_goes_on ok m m' e ts book losses r =
       subst (λ x. Kept A s ts x book losses) (sym e) (kept ok ts m book losses r)
