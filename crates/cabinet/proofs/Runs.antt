@@ -1,6 +1,7 @@
 -- A run that is listed is one that circles led to from a fresh start.
 use Rattle.std.proofs.Common.{◌≡◌, ℕ, ◌+◌, ◌*◌, ◌/◌, ◌%◌, ◌<◌, ◌≤◌, Bool, not, List, [], ◌++◌, length, Some, None, Ok}
-use Rattle.std.proofs.Common.{Err, Result, drop, sym, refl, ap, ◌∙◌, subst, inl, inr, le_trans, mul-le-mul_right, add-mul}
+use Rattle.std.proofs.Common.{Err, Result, drop, sym, refl, ap, ◌∙◌, subst, inl, inr, le_trans, mul-le-mul_right}
+use Rattle.std.proofs.Common.{add-mul}
 use Rattle.std.proofs.Common.{mul-le-mul_left, arith}
 use Rattle.std.proofs.Math.Seq.{drop-append_seam}
 use Rattle.std.proofs.lemmas.List.{length-map}

@@ -12,8 +12,8 @@ pub trait Medium {
     // What one put may make of the medium, as far as its rules decide it.
     ghost puts: { Puts Self };
 
-    // What one take makes of the medium.
-    ghost takes: { Takes Self };
+    // What one take makes of the medium, as far as it says more than its lanes do: nothing, unless it is given.
+    ghost takes: { Takes Self } = { λ _ _ _ _. Unit {0} };
 
     // Appends some number of copies of the frame, and answers that number.
     fn put(&mut self, from: usize, to: usize, frame: Frame) -> usize

@@ -15,8 +15,6 @@ impl Medium for Deaf {
 
     ghost puts = { Dropped };
 
-    ghost takes = { λ m _ _ n. n ≡ m };
-
     ghost few = { Prim.search rules };
 
     ghost outside = { Prim.search rules };

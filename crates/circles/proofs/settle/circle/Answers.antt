@@ -1,58 +1,17 @@
--- One board more.
-use Rattle.std.proofs.Common.{◌∙◌, Ok, arith, rules}
-use Rattle.std.proofs.lemmas.Result.{err_from_is_err_and}
+-- What the turns come to for every run.
 use Rattle.protocol.specs.Runs.{moment}
-use Rattle.circles.proofs.Turns.{no_board_turned, next_board_turned, next_board_refused, circle_told}
+use Rattle.circles.proofs.Turns.{circle_told}
 use Rattle.circles.proofs.settle.circle.Goals as goal
 
-pub loop-p-init : goal.loop-p-init
-loop-p-init g c =
-    let plan = c.args.plan.now in
-    no_board_turned g.E.Element.algebra g.met.E.Element.lawful plan.boards plan.copies.now
-    plan.edges.now _
-
-pub returns-in_err-turn-clause-exact : goal.returns-in_err-turn-clause-exact
-returns-in_err-turn-clause-exact g c =
+pub returns : goal.returns
+returns g c =
     let plan = c.args.plan.now in
     let lanes = g.D.Medium.lanes in
-    let p = err_from_is_err_and c.from_residual.result c.from_residual.ensures.1 in
-    rw (p.1, p.2) (next_board_refused g.E.Element.algebra g.met.E.Element.lawful plan.boards
-    plan.copies.now plan.edges.now
-    (moment c.args.turning.now.tally c.args.table.now.links c.args.copies.now
-    (lanes c.args.medium.now))
-    (moment c.loop-p.turning.tally c.loop-p.table.links c.loop-p.copies (lanes c.loop-p.medium))
-    (moment c.turn.new.self.tally c.turn.new.table.links c.turn.new.copies
-    (lanes c.turn.new.medium))
-    c.loop-p.p _ (omega arith) c.loop-p.invariant c.in_err-turn.ensures.exact)
-
-pub loop-p-preserved : goal.loop-p-preserved
-loop-p-preserved g c =
-    let plan = c.args.plan.now in
-    let lanes = g.D.Medium.lanes in
-    let turned = c.in_ok-turn.ensures in
-    next_board_turned g.E.Element.algebra g.met.E.Element.lawful plan.boards plan.copies.now
-    plan.edges.now
-    (moment c.args.turning.now.tally c.args.table.now.links c.args.copies.now
-    (lanes c.args.medium.now))
-    (moment c.loop-p.turning.tally c.loop-p.table.links c.loop-p.copies (lanes c.loop-p.medium))
-    (moment c.turn.new.self.tally c.turn.new.table.links c.turn.new.copies
-    (lanes c.turn.new.medium))
-    c.loop-p.p c.in_ok-turn.field-0 c.loop-p.invariant turned.exact turned.promise
-
-pub returns-in_err-turn-clause-told : goal.returns-in_err-turn-clause-told
-returns-in_err-turn-clause-told g c =
-    let plan = c.args.plan.now in
-    circle_told g.E.Element.algebra g.met.E.Element.lawful plan.boards plan.copies.now plan.edges.now _ _ _
-    (c.turn.auto.copies ∙ c.loop-p.auto.copies) (returns-in_err-turn-clause-exact g c)
-
-pub returns-clause-exact : goal.returns-clause-exact
-returns-clause-exact g c = search rules
-
-pub returns-clause-told : goal.returns-clause-told
-returns-clause-told g c =
-    let plan = c.args.plan.now in
-    let lanes = g.D.Medium.lanes in
-    circle_told g.E.Element.algebra g.met.E.Element.lawful plan.boards plan.copies.now plan.edges.now
-    (moment c.args.turning.now.tally c.args.table.now.links c.args.copies.now (lanes c.args.medium.now))
-    (moment c.loop-p.turning.tally c.loop-p.table.links c.loop-p.copies (lanes c.loop-p.medium))
-    (Ok tt) c.loop-p.auto.copies (returns-clause-exact g c)
+    record {
+      told = circle_told g.E.Element.algebra g.met.E.Element.lawful plan.boards plan.copies.now plan.edges.now
+          (moment c.args.turning.now.tally c.args.table.now.links c.args.copies.now (lanes c.args.medium.now))
+          (moment c.turn_each.new.turning.tally c.turn_each.new.table.links c.turn_each.new.copies
+          (lanes c.turn_each.new.medium))
+          c.turn_each.result c.turn_each.auto.copies c.turn_each.ensures;
+      exact = c.turn_each.ensures;
+    }

@@ -1,7 +1,7 @@
 -- So far k circles were made, and before each some board was not settled.
 use Rattle.protocol.specs.Runs.{moment}
 use Rattle.circles.specs.Circles.{UnsettledCircles}
-use Rattle.circles.proofs.settle.settle.Given as goal
+use Rattle.circles.proofs.settle.turn_until_settled.Given as goal
 
 abbrev pub invariant-loop-k : goal.invariant-loop-k
 invariant-loop-k g l =
