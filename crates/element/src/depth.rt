@@ -12,21 +12,19 @@ pub struct Depth {
 }
 
 impl Element for Depth {
+    ghost KIND = { 2 };
+
     const KIND: u8 = 2;
+
+    ghost USED = { 1 };
 
     const USED: usize = 1;
 
     ghost algebra = { depth_algebra };
 
+    ghost numbered = { Prim.search rules };
+
     ghost lawful = { Prim.search rules };
-
-    fn own_kind() -> u8 {
-        Self::KIND
-    }
-
-    fn used_words() -> usize {
-        Self::USED
-    }
 
     fn zero() -> Depth {
         Depth { value: 0 }

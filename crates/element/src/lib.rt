@@ -4,6 +4,7 @@
 pub mod depth;
 pub mod element;
 pub mod force;
+pub mod kind;
 pub mod kinds;
 pub mod tags;
 pub mod words;

@@ -2,6 +2,7 @@
 ghost use Rattle.std.specs.Prelude.{◌≡◌, ℕ, ◌||◌, bit_or};
 ghost use Rattle.element.specs.Models.{bit, tags_algebra, Union};
 ghost use Rattle.element.specs.Unions.{tags_lawful};
+ghost use Rattle.std.proofs.Common.{rules};
 
 use crate::element::Element;
 use crate::words::Words;
@@ -21,21 +22,19 @@ fn either(a: u32, b: u32) -> u32
 }
 
 impl Element for Tags {
+    ghost KIND = { 3 };
+
     const KIND: u8 = 3;
+
+    ghost USED = { 2 };
 
     const USED: usize = 2;
 
     ghost algebra = { tags_algebra };
 
+    ghost numbered = { Prim.search rules };
+
     ghost lawful = { tags_lawful };
-
-    fn own_kind() -> u8 {
-        Self::KIND
-    }
-
-    fn used_words() -> usize {
-        Self::USED
-    }
 
     fn zero() -> Tags {
         Tags { low: 0, high: 0 }

@@ -6,7 +6,8 @@ use Rattle.std.proofs.lemmas.Result.{err_from_is_err_and}
 use Rattle.scene.specs.declared.fault.RecordFault.{RecordFault}
 use Rattle.scene.specs.declared.fault.SceneFault.{SceneFault}
 use Rattle.scene.specs.declared.fault.Broken.{Broken}
-use Rattle.scene.specs.Rules.{Rule, all_hold, verdict, in_record, broken}
+use Rattle.scene.specs.declared.head.Head.{Head}
+use Rattle.scene.specs.Rules.{Rule, all_hold, verdict, in_record, broken, head_of, header_rules}
 
 abbrev pub Verdict : Type 0 → Type 0
 Verdict F = Result (Unit {0}) F
@@ -30,8 +31,8 @@ pub stopped : {F : Type 0} (xs ys : List (Rule F)) (e : F) → Err e ≡ verdict
 stopped xs ys e bad = sym (verdict_append xs ys ∙ ap (λ v. after v (verdict ys)) (sym bad))
 
 -- the scene's fault for what the reader of a record answers
-abbrev pub raised : Verdict Broken → Verdict SceneFault
-raised (Ok u) = Ok u
+abbrev pub raised : {T : Type 0} → Result T Broken → Verdict SceneFault
+raised (Ok x) = Ok tt
 raised (Err b) = Err (record { «record» = b.number; fault = b.fault })
 
 pub verdict_in_record : (n : ℕ) (rs : List (Rule RecordFault))
@@ -52,6 +53,26 @@ module _ (n : ℕ) (rs : List (Rule RecordFault)) (v : Verdict RecordFault) (is 
       → Err (record { «record» = b.number; fault = b.fault }) ≡ verdict (in_record n rs)
   record_stopped b bad = ap raised (bad ∙ ap (broken n) is) ∙ verdict_in_record n rs
 
+-- what the reader of a header answers, which is what the header says or what its rules come to
+abbrev pub ReadsHeader : List ℕ → Result Head RecordFault → Type 0
+ReadsHeader b (Ok h) = (h ≡ head_of b) × (Ok tt ≡ verdict (header_rules b))
+ReadsHeader b (Err f) = Err f ≡ verdict (header_rules b)
+
+module _ (b : List ℕ) where
+  pub header_passed : (r : Result Head RecordFault) → ReadsHeader b r → (h : Head) → Ok h ≡ broken 0 r
+      → (h ≡ head_of b) × (Ok tt ≡ verdict (in_record 0 (header_rules b)))
+  header_passed (Ok g) is h ok = (
+    ap (λ r. elim r [ Ok x ↦ x | Err _ ↦ h ]) ok ∙ is.0,
+    ap (λ v. raised (broken 0 v)) is.1 ∙ verdict_in_record 0 (header_rules b),
+  )
+  header_passed (Err f) is h ok = let no : ⊥ = grind arith in absurd no
+
+  pub header_stopped : (r : Result Head RecordFault) → ReadsHeader b r → (e : Broken) → Err e ≡ broken 0 r
+      → Err (record { «record» = e.number; fault = e.fault }) ≡ verdict (in_record 0 (header_rules b))
+  header_stopped (Ok g) is e bad = let no : ⊥ = grind arith in absurd no
+  header_stopped (Err f) is e bad =
+      ap raised bad ∙ ap (λ v. raised (broken 0 v)) is ∙ verdict_in_record 0 (header_rules b)
+
 -- no fault is found exactly if all rules hold
 pub verdict_ok : {F : Type 0} (rs : List (Rule F)) → all_hold rs ≡ is_ok (verdict rs)
 verdict_ok [] = refl
@@ -68,9 +89,6 @@ abbrev pub from : {F : Type 0} → (ℕ → List (Rule F)) → ℕ → ℕ → V
 from f i k = verdict (flat_map f (range_with_len i (k - i)))
 
 module _ {F : Type 0} (f : ℕ → List (Rule F)) where
-  pub from_start : (k : ℕ) → from f 0 k ≡ verdict (flat_map f (range_with_len 0 k))
-  from_start k = let same : k - 0 ≡ k = omega arith in ap (λ n. verdict (flat_map f (range_with_len 0 n))) same
-
   pub from_end : (i k : ℕ) → k ≤ i → from f i k ≡ Ok tt
   from_end i k h = let none : k - i ≡ 0 = omega arith in ap (λ n. verdict (flat_map f (range_with_len i n))) none
 
@@ -80,7 +98,7 @@ module _ {F : Type 0} (f : ℕ → List (Rule F)) where
       ap (λ n. verdict (flat_map f (range_with_len i n))) more
       ∙ verdict_append (f i) (flat_map f (range_with_len (i + 1) (k - (i + 1))))
 
--- a loop over those numbers, which is to come to v: one turn on, its early exit, and its end
+-- a loop over those numbers, which is to come to v: one turn on, and its early exit
 module _ {F : Type 0} (f : ℕ → List (Rule F)) (i k : ℕ) (v : Verdict F) (left : from f i k ≡ v) where
   pub turn_next : i < k → Ok tt ≡ verdict (f i) → from f (i + 1) k ≡ v
   turn_next h ok = sym (from_more f i k h ∙ ap (λ w. after w (from f (i + 1) k)) (sym ok)) ∙ left
@@ -88,6 +106,3 @@ module _ {F : Type 0} (f : ℕ → List (Rule F)) (i k : ℕ) (v : Verdict F) (l
   pub turn_exit : i < k → (r : Verdict F) (e : F) → IsErrAnd r (λ y. y ≡ e) → Err e ≡ verdict (f i) → r ≡ v
   turn_exit h r e out bad =
       exit_is r e out ∙ sym (from_more f i k h ∙ ap (λ w. after w (from f (i + 1) k)) (sym bad)) ∙ left
-
-  pub turn_end : k ≤ i → Ok tt ≡ v
-  turn_end h = sym (from_end f i k h) ∙ left

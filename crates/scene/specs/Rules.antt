@@ -117,6 +117,6 @@ verdict [] = Ok tt
 verdict (r ∷ rs) = cond r.0 (verdict rs) (Err r.1)
 
 -- a record's fault with the record's number
-abbrev pub broken : ℕ → Result (Unit {0}) RecordFault → Result (Unit {0}) Broken
-broken n (Ok u) = Ok u
+abbrev pub broken : {T : Type 0} → ℕ → Result T RecordFault → Result T Broken
+broken n (Ok x) = Ok x
 broken n (Err f) = Err (record { number = n; fault = f })

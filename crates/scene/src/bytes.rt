@@ -1,27 +1,33 @@
 // Numbers in bytes, low byte first. Past the end a byte reads as zero: whoever minds checks the length first.
 ghost use Rattle.std.specs.Prelude.{◌≡◌, ◌+◌, ◌^◌, ◌<◌};
 ghost use Rattle.scene.specs.Layout.{byte_at, number_at, word_at, words_at};
+ghost use Rattle.scene.specs.Rules.{marked};
 
 use element::words::Words;
 
 pub(crate) fn byte_at(bytes: &[u8], at: usize) -> u8
     ensures { result ≡ byte_at bytes.now at }
 {
-    if at < bytes.len() { bytes[at] } else { 0 }
+    bytes.get(at).copied().unwrap_or(0)
 }
 
 pub(crate) fn number_at(bytes: &[u8], at: usize) -> u16
     requires { at < 2 ^ 32 }
     ensures { result ≡ number_at bytes.now at }
 {
-    u16::from(byte_at(bytes, at)) + 256 * u16::from(byte_at(bytes, at + 1))
+    u16::from_le_bytes([byte_at(bytes, at), byte_at(bytes, at + 1)])
 }
 
 pub(crate) fn word_at(bytes: &[u8], at: usize) -> u32
     requires { at + 2 < 2 ^ 32 }
     ensures { result ≡ word_at bytes.now at }
 {
-    u32::from(number_at(bytes, at)) + 65536 * u32::from(number_at(bytes, at + 2))
+    u32::from_le_bytes([
+        byte_at(bytes, at),
+        byte_at(bytes, at + 1),
+        byte_at(bytes, at + 2),
+        byte_at(bytes, at + 3),
+    ])
 }
 
 pub(crate) fn words_at(bytes: &[u8], at: usize) -> Words
@@ -33,4 +39,12 @@ pub(crate) fn words_at(bytes: &[u8], at: usize) -> Words
         y: word_at(bytes, at + 4),
         z: word_at(bytes, at + 8),
     }
+}
+
+// Whether a mark of two bytes stands at a place.
+pub(crate) fn is_marked(bytes: &[u8], at: usize, first: u8, second: u8) -> bool
+    requires { at < 2 ^ 32 }
+    ensures { result ≡ marked bytes.now at first second }
+{
+    byte_at(bytes, at) == first && byte_at(bytes, at + 1) == second
 }

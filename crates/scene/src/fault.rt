@@ -4,7 +4,7 @@ ghost use Rattle.std.specs.Prelude.{◌≡◌};
 mod numbers;
 
 // What is wrong with one record, and at which byte of the scene.
-#[derive(Clone, Copy)]
+#[derive(Clone, Copy, PartialEq, Eq)]
 pub enum RecordFault {
     Short { place: usize },
     Mark { place: usize },
@@ -16,7 +16,7 @@ pub enum RecordFault {
 }
 
 // A record's number, 0 for the header, then the cells, then the end; and its fault.
-#[derive(Clone, Copy)]
+#[derive(Clone, Copy, PartialEq, Eq)]
 pub struct SceneFault {
     pub record: usize,
     pub fault: RecordFault,

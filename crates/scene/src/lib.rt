@@ -6,6 +6,6 @@ mod cell;
 mod check;
 pub mod fault;
 mod head;
-mod parts;
-mod places;
+mod loops;
+mod record;
 pub mod view;

@@ -2,6 +2,7 @@
 ghost use Rattle.std.specs.Prelude.{◌≡◌, ℕ, ◌+◌};
 ghost use Rattle.element.specs.Models.{axis, force, force_algebra, Adds, Sum};
 ghost use Rattle.element.specs.Forces.{force_lawful};
+ghost use Rattle.std.proofs.Common.{rules};
 
 use crate::element::Element;
 use crate::force::Force;
@@ -24,21 +25,19 @@ fn along(a: u32, b: u32) -> u32
 }
 
 impl Element for Force {
+    ghost KIND = { 1 };
+
     const KIND: u8 = 1;
+
+    ghost USED = { 3 };
 
     const USED: usize = 3;
 
     ghost algebra = { force_algebra };
 
+    ghost numbered = { Prim.search rules };
+
     ghost lawful = { force_lawful };
-
-    fn own_kind() -> u8 {
-        Self::KIND
-    }
-
-    fn used_words() -> usize {
-        Self::USED
-    }
 
     fn zero() -> Force {
         Self::unpack(Words { x: 0, y: 0, z: 0 })

@@ -11,13 +11,13 @@ impl RecordFault {
         ensures { result ≡ first_of (record_numbers self.now) }
     {
         match *self {
-            RecordFault::Short { place: _ } => 1,
-            RecordFault::Mark { place: _ } => 2,
-            RecordFault::Header { place: _ } => 3,
-            RecordFault::Cell { place: _ } => 4,
-            RecordFault::Corners { place: _ } => 5,
-            RecordFault::Word { place: _ } => 6,
-            RecordFault::Trailing { place: _ } => 7,
+            RecordFault::Short { .. } => 1,
+            RecordFault::Mark { .. } => 2,
+            RecordFault::Header { .. } => 3,
+            RecordFault::Cell { .. } => 4,
+            RecordFault::Corners { .. } => 5,
+            RecordFault::Word { .. } => 6,
+            RecordFault::Trailing { .. } => 7,
         }
     }
 

@@ -1,5 +1,6 @@
 // What a view says of its scene.
 ghost use Rattle.std.specs.Prelude.{◌≡◌, ℕ, ◌^◌, ◌<◌, List, [], ◌∷◌, map, length, is_ok, Some, None, Ok, Err, Decides};
+ghost use Rattle.element.specs.Kinds.{kind_number};
 ghost use Rattle.scene.specs.Layout.{number_at, corners_of, start_of};
 ghost use Rattle.scene.specs.Views.{viewed, smallest};
 ghost use Rattle.scene.specs.Written.{Written, ReadsBack};
@@ -10,9 +11,9 @@ use super::SceneView;
 use crate::bytes::{byte_at, number_at};
 use crate::check::check;
 use crate::fault::SceneFault;
-use crate::head::corners_of;
-use crate::parts::{board_at, corner_at, part_at};
-use crate::places::cell_place;
+use crate::head::CORNERS;
+use crate::record::CellRecord;
+use element::kind::Kind;
 use element::words::Words;
 
 impl<'a> SceneView<'a> {
@@ -42,10 +43,13 @@ impl<'a> SceneView<'a> {
         Ok(())
     }
 
-    pub fn kind(&self) -> u8
-        ensures { result ≡ (viewed self.now).kind }
+    pub fn kind(&self) -> Kind
+        ensures { kind_number result ≡ (viewed self.now).kind }
     {
-        byte_at(self.bytes, 3)
+        let Ok(kind) = Kind::try_from(byte_at(self.bytes, 3)) else {
+            unreachable!()
+        };
+        kind
     }
 
     pub fn boards(&self) -> usize
@@ -83,16 +87,18 @@ impl<'a> SceneView<'a> {
     pub fn corners(&self) -> usize
         ensures { result ≡ corners_of self.now.bytes.now }
     {
-        corners_of(self.bytes)
+        usize::from(CORNERS)
     }
 
-    // Where cell number c begins, if there is such a cell.
-    fn cell_start(&self, c: usize) -> Option<usize>
-        ensures place { result ≡ start_of self.now.bytes.now c }
-        ensures near { elim result [ Some at ↦ at < 2 ^ 31 | None ↦ Unit {0} ] }
+    // The record of cell number c, if there is such a cell.
+    fn cell(&self, c: usize) -> Option<CellRecord<'a>>
+        ensures { elim result [
+          | Some cell ↦ (cell.bytes.now ≡ self.now.bytes.now) × (Some cell.at ≡ start_of self.now.bytes.now c)
+          | None ↦ None ≡ start_of self.now.bytes.now c
+        ] }
     {
         if c < usize::from(self.count()) {
-            Some(cell_place(corners_of(self.bytes), c))
+            Some(CellRecord::new(self.bytes, CORNERS, c as u16))
         } else {
             None
         }
@@ -102,17 +108,17 @@ impl<'a> SceneView<'a> {
     pub fn cell_board(&self, c: usize) -> Option<usize>
         ensures { result ≡ board_of (viewed self.now) c }
     {
-        let at = self.cell_start(c)?;
-        Some(usize::from(board_at(self.bytes, at)))
+        let cell = self.cell(c)?;
+        Some(usize::from(cell.board()))
     }
 
     // The vertex at corner number k of cell number c.
     pub fn corner(&self, c: usize, k: usize) -> Option<usize>
         ensures { result ≡ corner_of (viewed self.now) c k }
     {
-        let at = self.cell_start(c)?;
+        let cell = self.cell(c)?;
         if k < self.corners() {
-            Some(usize::from(corner_at(self.bytes, at, k)))
+            Some(usize::from(cell.corner(k as u16)))
         } else {
             None
         }
@@ -122,10 +128,9 @@ impl<'a> SceneView<'a> {
     pub fn contribution(&self, c: usize, k: usize) -> Option<Words>
         ensures { result ≡ part_of (viewed self.now) c k }
     {
-        let at = self.cell_start(c)?;
-        let corners = self.corners();
-        if k < corners {
-            Some(part_at(self.bytes, corners, at, k))
+        let cell = self.cell(c)?;
+        if k < self.corners() {
+            Some(cell.part(CORNERS, k as u16))
         } else {
             None
         }

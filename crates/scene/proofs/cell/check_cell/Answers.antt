@@ -19,8 +19,8 @@ words_unused h b at = flat_map (word_rule h b at) (range_with_len 0 (3 * h.corne
 pub returns-in_err-check_corners : goal.returns-in_err-check_corners
 returns-in_err-check_corners c =
     let h = c.args.head in
-    let b = c.args.bytes.now in
-    let at = c.args.at in
+    let b = c.args.cell.now.bytes.now in
+    let at = c.args.cell.now.at in
     let bad = c.in_err-check_corners in
     let r = c.from_residual-in_err-check_corners in
     let rest = all_apart h b at ++ words_unused h b at in
@@ -31,8 +31,8 @@ returns-in_err-check_corners c =
 pub returns-in_err-check_apart : goal.returns-in_err-check_apart
 returns-in_err-check_apart c =
     let h = c.args.head in
-    let b = c.args.bytes.now in
-    let at = c.args.at in
+    let b = c.args.cell.now.bytes.now in
+    let at = c.args.cell.now.at in
     let bad = c.in_err-check_apart in
     let r = c.from_residual-in_err-check_apart in
     let rest = all_apart h b at ++ words_unused h b at in
@@ -44,8 +44,8 @@ returns-in_err-check_apart c =
 pub returns : goal.returns
 returns c =
     let h = c.args.head in
-    let b = c.args.bytes.now in
-    let at = c.args.at in
+    let b = c.args.cell.now.bytes.now in
+    let at = c.args.cell.now.at in
     let rest = all_apart h b at ++ words_unused h b at in
     c.check_words.ensures
     ∙ past (all_apart h b at) (words_unused h b at) c.in_ok-check_apart.ensures

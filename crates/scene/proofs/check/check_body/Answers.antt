@@ -22,14 +22,11 @@ returns-in_err-in_record c =
     let b = c.args.bytes.now in
     let bad = c.in_err-in_record in
     let r = c.from_residual-in_err-in_record in
-    let count = c.from-cells.ensures in
     let rules = end_rules b (cell_place h.corners h.cells) in
-    let is =
-    c.check_end.ensures
-    ∙ ap (λ at. verdict (end_rules b at)) (c.cell_place.ensures.place ∙ ap (cell_place h.corners) count) in
-    let found = bad.ensures ∙ ap (λ n. broken (n + 1) c.check_end.result) count in
+    let is = c.check_end.ensures ∙ ap (λ at. verdict (end_rules b at)) c.new-end.ensures.1 in
     exit_is r.result _ r.ensures.1
-    ∙ record_stopped (h.cells + 1) rules c.check_end.result is bad.field-0.0 found
+    ∙ record_stopped (h.cells + 1) rules c.check_end.result is bad.field-0.0
+    (bad.ensures ∙ ap (λ k. broken (k + 1) c.check_end.result) c.from.ensures)
     ∙ past (flat_map (cell_record h b) (range_with_len 0 h.cells)) (in_record (h.cells + 1) rules)
     c.in_ok-check_cells.ensures
 
@@ -37,12 +34,9 @@ pub returns : goal.returns
 returns c =
     let h = c.args.head in
     let b = c.args.bytes.now in
-    let count = c.from-cells.ensures in
     let rules = end_rules b (cell_place h.corners h.cells) in
-    let is =
-    c.check_end.ensures
-    ∙ ap (λ at. verdict (end_rules b at)) (c.cell_place.ensures.place ∙ ap (cell_place h.corners) count) in
-    let found = c.in_ok-in_record.ensures ∙ ap (λ n. broken (n + 1) c.check_end.result) count in
-    record_passed (h.cells + 1) rules c.check_end.result is found
+    let is = c.check_end.ensures ∙ ap (λ at. verdict (end_rules b at)) c.new-end.ensures.1 in
+    record_passed (h.cells + 1) rules c.check_end.result is
+    (c.in_ok-in_record.ensures ∙ ap (λ k. broken (k + 1) c.check_end.result) c.from.ensures)
     ∙ past (flat_map (cell_record h b) (range_with_len 0 h.cells)) (in_record (h.cells + 1) rules)
     c.in_ok-check_cells.ensures

@@ -1,25 +1,27 @@
 -- The corner's two bytes stand at their place in the cell.
 use Rattle.std.proofs.Common.{◌<◌, ◌≤◌, Some, ap, ◌∙◌, arith}
 use Rattle.std.specs.List.{slice_get}
-use Rattle.scene.specs.Layout.{corners_of}
+use Rattle.scene.specs.Layout.{corners_of, corner_place, number_at}
 use Rattle.scene.proofs.Reading.{absent, corner_read, corner_past}
 use Rattle.scene.proofs.view.SceneView.corner.Goals as goal
 
-pub returns-in_err-at : goal.returns-in_err-at
-returns-in_err-at c =
+pub returns-in_err-cell : goal.returns-in_err-cell
+returns-in_err-cell c =
     let b = c.args.self.now.bytes.now in
     c.from_residual.ensures
-    ∙ absent b c.args.c (λ x. slice_get x.corners c.args.k) c.in_err-at.ensures.place
+    ∙ absent b c.args.c (λ x. slice_get x.corners c.args.k) c.in_err-cell.ensures
 
 pub returns-then-k-corners : goal.returns-then-k-corners
 returns-then-k-corners c =
     let b = c.args.self.now.bytes.now in
+    let at = c.in_ok-cell.cell.at in
+    let is = c.in_ok-cell.ensures in
     let inside : c.args.k < corners_of b = omega arith in
-    ap Some (c.from.ensures ∙ c.corner_at.ensures)
-    ∙ corner_read b c.args.c c.in_ok-at.at c.in_ok-at.ensures.place c.args.k inside
+    ap Some (c.from.ensures ∙ c.corner.ensures ∙ ap (λ x. number_at x (corner_place at c.args.k)) is.0)
+    ∙ corner_read b c.args.c at is.1 c.args.k inside
 
 pub returns-else-k-corners : goal.returns-else-k-corners
 returns-else-k-corners c =
     let b = c.args.self.now.bytes.now in
     let past : corners_of b ≤ c.args.k = omega arith in
-    corner_past b c.args.c c.in_ok-at.at c.in_ok-at.ensures.place c.args.k past
+    corner_past b c.args.c c.in_ok-cell.cell.at c.in_ok-cell.ensures.1 c.args.k past
