@@ -32,15 +32,13 @@ laid_plan_accepted s boards records edges plan =
     ∙ ap (λ es. sound_plan s.boards (laid_copies s) es) plan.same_edges
     ∙ laid_plan_is_sound s plan.sound
 
-front : {X : Type 0} (n : ℕ) (xs ys rest : List X) → n ≡ length xs → ys ≡ xs ++ rest → take (n - 0) ys ≡ xs
-front n xs ys rest e p =
-    let whole : n - 0 ≡ n = omega arith in
-    ap (λ k. take k ys) whole ∙ ap (take n) p ∙ take_at xs rest n (sym e)
+front : {X : Type 0} (n : ℕ) (xs ys rest : List X) → n ≡ length xs → ys ≡ xs ++ rest → take n ys ≡ xs
+front n xs ys rest e p = ap (take n) p ∙ take_at xs rest n (sym e)
 
 -- the records in front are the laid plan, and there was room for them
 pub laid_in_front : (s s' : Scene) (n : LaidCounts) (cs cs' : List CopyRecord) (es es' : List Edge) → Sound s
     → s ≡ s' → Laid s' n cs cs' es es'
-    → LaidPlan s s.boards (take (n.copies - 0) cs') (take (n.edges - 0) es')
+    → LaidPlan s s.boards (take n.copies cs') (take n.edges es')
 laid_in_front s s' n cs cs' es es' ok same laid' =
     let laid = subst (λ (x : Scene). Laid x n cs cs' es es') (sym same) laid' in
     record {
@@ -51,7 +49,7 @@ laid_in_front s s' n cs cs' es es' ok same laid' =
     }
 
 pub laid_within : (s : Scene) (n : LaidCounts) (cs cs' : List CopyRecord) (es es' : List Edge)
-    → Laid s n cs cs' es es' → length (take (n.copies - 0) cs') ≤ length cs
+    → Laid s n cs cs' es es' → length (take n.copies cs') ≤ length cs
 laid_within s n cs cs' es es' laid =
     let e = front n.copies (laid_copies s) cs' (drop n.copies cs) laid.copy_count laid.copies_laid in
     omega (arith, ap length e, laid.copy_room)

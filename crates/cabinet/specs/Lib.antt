@@ -1,3 +1,4 @@
 pub mod Listed
 pub mod Pages
 pub mod Prepared
+pub mod Told

@@ -2,6 +2,7 @@
 #![tactic(auto)]
 
 pub mod listed;
+mod outcome;
 mod page;
 pub mod prepare;
 

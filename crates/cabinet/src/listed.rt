@@ -1,28 +1,28 @@
 // The listing of a scene's run.
-ghost use Rattle.std.specs.Prelude.{◌≡◌, ◌<◌, ◌≤◌, ◌++◌, length, IfOk, OnOk};
+ghost use Rattle.std.specs.Prelude.{◌≡◌, ◌≤◌, ◌++◌, length, IfOk};
 ghost use Rattle.scene.specs.Views.{viewed};
-ghost use Rattle.protocol.specs.declared.tally.Report.TheVariants.{Settled};
 ghost use Rattle.exchange.specs.Going.{LaidPlan};
-ghost use Rattle.cabinet.specs.Pages.{page_of, boards_page, head_page, reports};
+ghost use Rattle.cabinet.specs.Pages.{boards_page, head_page, reports};
 ghost use Rattle.cabinet.specs.Pages.{refused_page};
 ghost use Rattle.cabinet.specs.Listed.{record_room, RunTold, KindTold, PageTold};
 
-use crate::page::{add_board, add_line};
+use crate::outcome::{Outcome, Run};
+use crate::page::add_line;
 use crate::prepare::prepare;
 use circles::settle::settle;
 use element::depth::Depth;
 use element::element::Element;
 use element::force::Force;
+use element::kind::Kind;
 use element::tags::Tags;
-use exchange::run::book::{end_by_the_book, report_by_the_book};
+use exchange::run::Turning;
+use exchange::run::book::end_by_the_book;
 use exchange::run::drive::begin;
-use exchange::run::{Ended, Turning};
-use listing::lines::{PlanNumbers, plan_line, refusal_line, tally_line};
+use listing::lines::{PlanNumbers, refusal_line};
 use medium::medium::Medium;
 use plan::records::{CopyRecord, Edge};
 use plan::view::PlanView;
 use protocol::table::LinkTable;
-use protocol::tally::{Report, Tally};
 use refusals::refusal::Refusal;
 use scene::view::SceneView;
 use std::alloc::{AllocError, Global};
@@ -40,158 +40,14 @@ fn list_refusal(heap: Global, refusal: Refusal) -> Result<Vec<u8>, AllocError>
     Ok(page)
 }
 
-// The plan's line and the tally's.
-fn add_head(page: &mut Vec<u8>, numbers: PlanNumbers, tally: Tally) -> Result<(), AllocError>
-    ensures { OnOk result (page.new.items ≡ page.old.items
-        ++ head_page numbers tally) }
-{
-    add_line(page, &plan_line(numbers))?;
-    add_line(page, &tally_line(tally))
-}
-
-// A board of an ended run: it is settled, and shows its copies.
-fn add_shown<E: Element>(
-    page: &mut Vec<u8>,
-    ended: &Ended,
-    plan: &PlanView,
-    values: &[E],
-    board: usize,
-) -> Result<(), AllocError>
-    requires below { board < plan.now.boards }
-    requires room { length plan.now.copies.now ≤ length values.now }
-    ensures { OnOk result (page.new.items ≡ page.old.items
-        ++ page_of E.Element.algebra (λ _. Settled) plan.now.copies.now values.now
-        board) }
-{
-    let part = plan.board_part(board);
-    let (from, end) = (part.from, part.from + part.count);
-    match ended.show(plan, values, board) {
-        Ok(shown) => add_board(
-            page,
-            board,
-            Report::Settled,
-            &plan.copies()[from..end],
-            shown,
-        ),
-        Err(_) => Ok(()),
-    }
-}
-
-// All boards are settled: each shows its copies.
-fn list_settled<E: Element>(
-    page: &mut Vec<u8>,
-    ended: &Ended,
-    plan: &PlanView,
-    values: &[E],
-) -> Result<(), AllocError>
-    requires room { length plan.now.copies.now ≤ length values.now }
-    ensures { OnOk result (page.new.items ≡ page.old.items
-        ++ boards_page E.Element.algebra (λ _. Settled) plan.now.copies.now values.now
-        plan.now.boards) }
-{
-    for board in 0..plan.boards() {
-        add_shown(page, ended, plan, values, board)?;
-    }
-    Ok(())
-}
-
-// A board of a run that goes on: its copies are read from the memory.
-fn add_reported<E: Element>(
-    page: &mut Vec<u8>,
-    turning: &Turning,
-    plan: &PlanView,
-    table: &LinkTable,
-    values: &[E],
-    board: usize,
-) -> Result<(), AllocError>
-    requires below { board < plan.now.boards }
-    requires room { length plan.now.copies.now ≤ length values.now }
-    ensures { OnOk result (page.new.items ≡ page.old.items
-        ++ page_of E.Element.algebra
-        (reports plan.now.boards plan.now.edges.now table.now.links)
-        plan.now.copies.now values.now board) }
-{
-    let part = plan.board_part(board);
-    let (from, end) = (part.from, part.from + part.count);
-    match report_by_the_book::<E>(turning, plan, table, board) {
-        Ok(report) => add_board(
-            page,
-            board,
-            report,
-            &plan.copies()[from..end],
-            &values[from..end],
-        ),
-        Err(_) => Ok(()),
-    }
-}
-
-// Some board is not settled: each is reported.
-fn list_unsettled<E: Element>(
-    page: &mut Vec<u8>,
-    turning: &Turning,
-    plan: &PlanView,
-    table: &LinkTable,
-    values: &[E],
-) -> Result<(), AllocError>
-    requires room { length plan.now.copies.now ≤ length values.now }
-    ensures { OnOk result (page.new.items ≡ page.old.items
-        ++ boards_page E.Element.algebra
-        (reports plan.now.boards plan.now.edges.now table.now.links)
-        plan.now.copies.now values.now plan.now.boards) }
-{
-    for board in 0..plan.boards() {
-        add_reported(page, turning, plan, table, values, board)?;
-    }
-    Ok(())
-}
-
-fn list_ended<E: Element>(
-    heap: Global,
-    numbers: PlanNumbers,
-    tally: Tally,
-    ended: &Ended,
-    plan: &PlanView,
-    values: &[E],
-) -> Result<Vec<u8>, AllocError>
-    requires room { length plan.now.copies.now ≤ length values.now }
-    ensures { IfOk result (λ page. page.items ≡ head_page numbers tally
-        ++ boards_page E.Element.algebra (λ _. Settled) plan.now.copies.now values.now
-        plan.now.boards) }
-{
-    let mut page = Vec::new(heap);
-    add_head(&mut page, numbers, tally)?;
-    list_settled(&mut page, ended, plan, values)?;
-    Ok(page)
-}
-
-fn list_open<E: Element>(
-    heap: Global,
-    numbers: PlanNumbers,
-    turning: &Turning,
-    plan: &PlanView,
-    table: &LinkTable,
-    values: &[E],
-) -> Result<Vec<u8>, AllocError>
-    requires room { length plan.now.copies.now ≤ length values.now }
-    ensures { IfOk result (λ page. page.items ≡ head_page numbers turning.now.tally
-        ++ boards_page E.Element.algebra
-        (reports plan.now.boards plan.now.edges.now table.now.links)
-        plan.now.copies.now values.now plan.now.boards) }
-{
-    let mut page = Vec::new(heap);
-    add_head(&mut page, numbers, turning.tally())?;
-    list_unsettled(&mut page, turning, plan, table, values)?;
-    Ok(page)
-}
-
 // Ends the run if all boards are settled, or else gives it up, and lists it.
-fn list_turned<E: Element>(
+fn list_turned<'a, E: Element>(
     heap: Global,
     numbers: PlanNumbers,
     turning: Turning,
-    plan: &PlanView,
-    table: &LinkTable,
-    values: &[E],
+    plan: &'a PlanView<'a>,
+    table: &'a LinkTable,
+    values: &'a [E],
 ) -> Result<Vec<u8>, AllocError>
     requires room { length plan.now.copies.now ≤ length values.now }
     ensures { IfOk result (λ page. page.items ≡ head_page numbers turning.tally
@@ -200,15 +56,25 @@ fn list_turned<E: Element>(
         plan.now.copies.now values.now plan.now.boards) }
 {
     match end_by_the_book::<E>(turning, plan, table) {
-        Ok(done) => {
-            let (ended, tally) = done;
-            let page = list_ended(heap, numbers, tally, &ended, plan, values);
+        Ok((ended, tally)) => {
+            let run = Run {
+                outcome: Outcome::Ended(&ended),
+                plan,
+                table,
+                values,
+            };
+            let page = run.list(heap, numbers, tally);
             let _ = ended.close();
             page
         }
-        Err(back) => {
-            let (turning, _) = back;
-            let page = list_open(heap, numbers, &turning, plan, table, values);
+        Err((turning, _)) => {
+            let run = Run {
+                outcome: Outcome::Open(&turning),
+                plan,
+                table,
+                values,
+            };
+            let page = run.list(heap, numbers, turning.tally());
             let _ = turning.abandon();
             page
         }
@@ -240,7 +106,7 @@ fn list_run<E: Element, D: Medium + Drop>(
     let numbers = PlanNumbers {
         boards: scene.boards(),
         overlap: scene.overlap(),
-        kind: scene.kind(),
+        kind: u8::from(scene.kind()),
         copies: plan.copies().len(),
         edges: plan.edges().len(),
     };
@@ -264,21 +130,21 @@ fn list_plan<'a, D: Medium + Drop>(
         return list_refusal(heap, Refusal::Plan(fault));
     }
     match scene.kind() {
-        1 => list_run(
+        Kind::Force => list_run(
             heap,
             scene,
             &plan,
             medium,
             &mut [Force { x: 0, y: 0, z: 0 }; MEMORY],
         ),
-        2 => list_run(
+        Kind::Depth => list_run(
             heap,
             scene,
             &plan,
             medium,
             &mut [Depth { value: 0 }; MEMORY],
         ),
-        _ => list_run(
+        Kind::Tags => list_run(
             heap,
             scene,
             &plan,
@@ -305,10 +171,13 @@ pub fn list<D: Medium + Drop>(heap: Global, bytes: &[u8], medium: D) -> Result<V
     }; MEMORY];
     let mut scene = SceneView::new();
     match prepare(&mut scene, bytes, &mut copies, &mut edges) {
-        Ok(counts) => {
-            let (some, joined) = (counts.copies, counts.edges);
-            list_plan(heap, &scene, &copies[0..some], &edges[0..joined], medium)
-        }
+        Ok(counts) => list_plan(
+            heap,
+            &scene,
+            &copies[..counts.copies],
+            &edges[..counts.edges],
+            medium,
+        ),
         Err(refusal) => list_refusal(heap, refusal),
     }
 }

@@ -28,10 +28,7 @@ pub fn report_by_the_book<E: Element>(
         → InEveryRun E.Element.algebra s turning.now.tally table.now.links
         (ReportsTheBook E.Element.algebra s board result) }
 {
-    match turning.report(plan, table, board) {
-        Ok(report) => Ok(report),
-        Err(fault) => Err(fault),
-    }
+    turning.report(plan, table, board)
 }
 
 // Ends the run exactly if every board is settled, in every run as the book says; answers its tally.
@@ -56,8 +53,5 @@ pub fn end_by_the_book<E: Element>(
         → InEveryRun E.Element.algebra s turning.tally table.now.links
         (EndsByTheBook E.Element.algebra s result) }
 {
-    match turning.end(plan, table) {
-        Ok(done) => Ok(done),
-        Err(back) => Err(back),
-    }
+    turning.end(plan, table)
 }

@@ -49,8 +49,7 @@ fn start_fresh<E: Element, D: Medium>(
 {
     match loaded.start(plan, table, medium, copies) {
         Ok(turning) => Ok(turning),
-        Err(back) => {
-            let (loaded, fault) = back;
+        Err((loaded, fault)) => {
             let _ = loaded.discard();
             Err(fault)
         }
@@ -118,13 +117,11 @@ fn try_out<E: Element, D: Medium>(
         ≡ drop (length plan.now.copies.now) copies.old }
 {
     match loaded.start(plan, table, medium, copies) {
-        Ok(started) => {
-            let mut turning = started;
+        Ok(mut turning) => {
             let _ = turning.turn(plan, table, medium, copies, 0);
             let _ = turning.abandon();
         }
-        Err(back) => {
-            let (loaded, _) = back;
+        Err((loaded, _)) => {
             let _ = loaded.discard();
         }
     }
@@ -226,14 +223,12 @@ pub fn finish<'a, E: Element>(
     ] }
 {
     match turning.end(plan, table) {
-        Ok(done) => {
-            let (ended, _) = done;
+        Ok((ended, _)) => {
             let shown = show_totals(&ended, plan, table, copies, board);
             let _ = ended.close();
             shown
         }
-        Err(back) => {
-            let (turning, fault) = back;
+        Err((turning, fault)) => {
             let _ = turning.abandon();
             Err(fault)
         }

@@ -1,5 +1,5 @@
 // The two ways out of a run.
-ghost use Rattle.std.specs.Prelude.{◌≡◌, ℕ, ◌<◌, ◌≤◌, not, Ok, Err, nat_lt};
+ghost use Rattle.std.specs.Prelude.{◌≡◌, ℕ, ◌<◌, ◌≤◌, not, Some, None, Ok, Err, nat_lt};
 ghost use Rattle.plan.specs.Links.{shape};
 ghost use Rattle.protocol.specs.Books.{lowest_unsettled};
 ghost use Rattle.protocol.specs.Runs.{accepted_in};
@@ -11,20 +11,21 @@ use protocol::fault::RunFault;
 use protocol::table::LinkTable;
 use protocol::tally::{Report, Tally};
 
-// The lowest board that is not settled, or as many as there are boards.
-fn first_unsettled(plan: &PlanView, table: &LinkTable) -> usize
-    ensures value { result ≡ lowest_unsettled (shape plan.now.boards plan.now.edges.now)
-        (accepted_in table.now.links) }
-    ensures within { result ≤ plan.now.boards }
+// The lowest board that is not settled, if there is one.
+fn first_unsettled(plan: &PlanView, table: &LinkTable) -> Option<usize>
+    ensures { elim result [
+      | Some p ↦ (p < plan.now.boards) × (p ≡ lowest_unsettled
+          (shape plan.now.boards plan.now.edges.now) (accepted_in table.now.links))
+      | None ↦ lowest_unsettled (shape plan.now.boards plan.now.edges.now)
+          (accepted_in table.now.links) ≡ plan.now.boards
+    ] }
 {
-    let boards = plan.boards();
-    for p in 0..boards {
-        match report_on(plan, table, p) {
-            Report::Settled => {}
-            Report::Awaits { board: _, items: _ } => return p,
+    for p in 0..plan.boards() {
+        if let Report::Awaits { .. } = report_on(plan, table, p) {
+            return Some(p);
         }
     }
-    boards
+    None
 }
 
 impl Turning {
@@ -46,8 +47,7 @@ impl Turning {
               plan.now.edges.now) (accepted_in table.now.links)))
         ] }
     {
-        let board = first_unsettled(plan, table);
-        if board < plan.boards() {
+        if let Some(board) = first_unsettled(plan, table) {
             return Err((self, RunFault::Early { board }));
         }
         let Turning { tally } = self;
@@ -68,7 +68,7 @@ impl Turning {
             (shape plan.now.boards plan.now.edges.now)
             (accepted_in table.now.links)) plan.now.boards) }
     {
-        !(first_unsettled(plan, table) < plan.boards())
+        first_unsettled(plan, table).is_none()
     }
 
     pub fn tally(&self) -> Tally

@@ -19,7 +19,7 @@ pub fn load<E: Element>(
     ensures exact { LoadAnswers E.Element.algebra (viewed scene.now)
         plan.now.copies.now copies.old copies.new result }
 {
-    let kind = scene.kind();
+    let kind = u8::from(scene.kind());
     if !is_kind_of::<E>(kind) {
         return Err(RunFault::Kind { kind });
     }

@@ -15,20 +15,6 @@ use protocol::fault::RunFault;
 use protocol::table::{Link, LinkTable};
 use protocol::tally::Tally;
 
-// The number of the first lane in which a frame waits, or 64.
-fn first_waiting<D: Medium>(medium: &D) -> usize
-    ensures idle { IdleBefore (D.Medium.lanes medium.now) result }
-    ensures found { result < 64 → FirstWaiting (D.Medium.lanes medium.now) result }
-    ensures within { result ≤ 64 }
-{
-    for k in 0..64usize {
-        if medium.waiting(k / 8, k % 8) > 0 {
-            return k;
-        }
-    }
-    64
-}
-
 // Refuses if a frame waits somewhere, with the first such lane.
 fn check_idle<D: Medium>(medium: &D) -> Result<(), RunFault>
     ensures { elim result [
@@ -36,12 +22,11 @@ fn check_idle<D: Medium>(medium: &D) -> Result<(), RunFault>
       | Err f ↦ WaitingFault (D.Medium.lanes medium.now) f
     ] }
 {
-    let lane = first_waiting(medium);
-    if lane < 64 {
-        return Err(RunFault::Waiting {
-            from: lane / 8,
-            to: lane % 8,
-        });
+    for k in 0..64usize {
+        let (from, to) = (k / 8, k % 8);
+        if medium.waiting(from, to) > 0 {
+            return Err(RunFault::Waiting { from, to });
+        }
     }
     Ok(())
 }

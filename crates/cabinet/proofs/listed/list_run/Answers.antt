@@ -25,11 +25,11 @@ returns g c =
     let n : PlanNumbers = record {
       boards = c.boards.result;
       overlap = c.overlap.result;
-      kind = c.kind.result;
+      kind = c.from.result;
       copies = length c.copies.result.now;
       edges = length c.edges.result.now;
     } in
-    let same = same_numbers s records edges n c.boards.ensures c.overlap.ensures c.kind.ensures
+    let same = same_numbers s records edges n c.boards.ensures c.overlap.ensures (c.from.ensures ∙ c.kind.ensures)
     (ap (λ r. length r.now) c.copies.ensures) (ap (λ r. length r.now) c.edges.ensures) in
     IfOk-weaker c.list_turned.result _ _ (λ page e. record {
       fresh = λ _. run_listed A g.met.E.Element.lawful s m m' (vec_items page) (begun.promise c.requires.laid)

@@ -17,8 +17,8 @@ returns-in-Ok g c =
     let ended = c.in-Ok.ensures.exact in
     let all : plan.boards ≤ lowest_unsettled (shape plan.boards plan.edges.now) (accepted_in links)
     = omega (arith, ended.0) in
-    IfOk-weaker c.list_ended-page.result _ _ (λ _ e. e ∙ ap₂ ◌++◌ (ap (head_page c.args.numbers) ended.2)
+    IfOk-weaker c.list-page.result _ _ (λ _ e. e ∙ ap₂ ◌++◌ (ap (head_page c.args.numbers) ended.2)
     (same_reports g.E.Element.algebra plan.copies.now c.args.values.now (λ _. Settled)
     (reports plan.boards plan.edges.now links) plan.boards
     (λ p l. sym (all_reported (shape plan.boards plan.edges.now) (accepted_in links) all p l))))
-    c.list_ended-page.ensures
+    c.list-page.ensures

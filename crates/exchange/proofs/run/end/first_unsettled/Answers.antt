@@ -11,16 +11,15 @@ returns-in-Awaits c =
     let P : Shape = shape c.args.plan.now.boards c.args.plan.now.edges.now in
     let count : ℕ → ℕ → ℕ = accepted_in c.args.table.now.links in
     let p : ℕ = c.loop-p.p in
-    let below : p < P.boards = omega (arith, c.boards-boards.ensures) in
-    record {
-      value = sym (lowest_found (λ r. not (is_settled (report_by P count r))) p c.loop-p.invariant
-          (ap (λ r. not (is_settled r)) (sym c.in-Awaits.ensures)) P.boards below);
-      within = omega arith;
-    }
+    let below : p < P.boards = omega (arith, c.boards-p-end.ensures) in (
+      below,
+      sym (lowest_found (λ r. not (is_settled (report_by P count r))) p c.loop-p.invariant
+          (ap (λ r. not (is_settled r)) (sym c.in-Awaits.ensures)) P.boards below),
+    )
 
 pub loop-p-preserved : goal.loop-p-preserved
 loop-p-preserved c =
     let P : Shape = shape c.args.plan.now.boards c.args.plan.now.edges.now in
     let count : ℕ → ℕ → ℕ = accepted_in c.args.table.now.links in
     lowest_not_yet (λ r. not (is_settled (report_by P count r))) c.loop-p.p c.loop-p.invariant
-    (ap (λ r. not (is_settled r)) (sym c.in-Settled.ensures))
+    (ap (λ r. not (is_settled r)) (sym c.in_default.ensures))

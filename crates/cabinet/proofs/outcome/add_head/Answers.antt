@@ -4,7 +4,7 @@ use Rattle.std.proofs.lemmas.Result.{IfOk-weaker}
 use Rattle.listing.specs.Held.{held}
 use Rattle.listing.specs.Lines.{plan_line, tally_line}
 use Rattle.cabinet.proofs.Pages.{added_twice}
-use Rattle.cabinet.proofs.listed.add_head.Goals as goal
+use Rattle.cabinet.proofs.outcome.add_head.Goals as goal
 
 pub returns : goal.returns
 returns c = IfOk-weaker c.add_line-2.result _ _ (λ _ e. added_twice (vec_items c.args.page.now)

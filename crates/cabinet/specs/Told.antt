@@ -1,0 +1,14 @@
+-- What is told of the boards of a run that is over.
+use Rattle.std.specs.Prelude.{ℕ, List}
+use Rattle.plan.specs.declared.records.Edge.{Edge}
+use Rattle.protocol.specs.declared.table.Link.{Link}
+use Rattle.protocol.specs.declared.tally.Report.{Report}
+use Rattle.protocol.specs.declared.tally.Report.TheVariants.{Settled}
+use Rattle.cabinet.specs.Pages.{reports}
+use Rattle.cabinet.specs.declared.outcome.Outcome.{Outcome}
+use Rattle.cabinet.specs.declared.outcome.Outcome.TheVariants.{Ended, Open}
+
+-- all boards of an ended run are settled; of one that goes on, the table tells
+abbrev pub told_by : Outcome → ℕ → List Edge → List Link → ℕ → Report
+told_by (Ended run) boards edges links p = Settled
+told_by (Open run) boards edges links p = reports boards edges links p
