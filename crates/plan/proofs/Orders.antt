@@ -1,11 +1,13 @@
 -- Lists in which every record stands in a relation to each later one.
-use Rattle.std.proofs.Common.{◌≡◌, ℕ, zero, suc, ◌+◌, ◌<◌, ◌≤◌, Bool, true, false, ◌&&◌, eqb, ltb, List, [], ◌∷◌}
+use Rattle.std.proofs.Common.{◌≡◌, ℕ, zero, suc, ◌+◌, ◌<◌, ◌≤◌, Bool, true, false, ◌&&◌, eqb, leb, ltb, List, [], ◌∷◌}
 use Rattle.std.proofs.Common.{◌++◌, length, get_or, take, drop, filter, sym, refl, ap, ◌∙◌, inl, inr, arith}
 use Rattle.std.proofs.Common.{length-append}
 use Rattle.std.specs.List.{AllByRecursion}
 use Rattle.std.proofs.ByRecursion.{All-weaker, All-get_or, all_kept_by}
 use Rattle.std.proofs.lemmas.List.{take_at, drop_at}
 use Rattle.std.proofs.lemmas.Bool.{and_parts, cases_order, cases_Bool, eq-eqb, ne_eqb, lt-ltb, le-ltb}
+use Rattle.std.specs.List.Sorted.{IsNonDecreasingBy, IsPartitionPoint}
+use Rattle.std.proofs.Math.Dec.{leb-suc-suc}
 use Rattle.plan.specs.Sound.{each, rising}
 use Rattle.plan.specs.Sums.{sum_below}
 
@@ -171,3 +173,31 @@ module _ {X : Type 0} (f : X → ℕ) (n : ℕ) where
       let level = filter (λ x. eqb (f x) n) xs in
       let high = filter (λ x. ltb n (f x)) xs in
       omega (arith, ap length (in_parts xs o), length-append low (level ++ high), length-append level high)
+
+pub non_decreasing : {X : Type 0} (f : X → ℕ) (xs : List X) → Ordered (λ x y. f x ≤ f y) xs → IsNonDecreasingBy f xs
+non_decreasing f xs o i j d le lt = elim (cases_order i j) [
+  | inl e ↦ omega (arith, ap (λ k. f (get_or xs k d)) e)
+  | inr n ↦ elim n [
+    | inl l ↦ ordered_at _ xs d o i j l lt
+    | inr l ↦ absurd (omega arith)
+  ]
+]
+
+-- a search that ends at i has i records that pass below it, and none from it on
+pub point_counts : {X : Type 0} (t : X → Bool) (xs : List X) (i : ℕ)
+    → IsPartitionPoint (λ x. t x ≡ true) (λ x. t x ≡ false) xs i → i ≤ length xs → i ≡ length (filter t xs)
+point_counts t [] i h l = omega arith
+point_counts t (x ∷ xs) zero h l =
+    rw (h.1 0 x (omega arith) (omega arith)) (point_counts t xs zero
+    ((λ k d a b. absurd (omega arith)), (λ k d a b. h.1 (suc k) d (omega arith) (omega arith))) (omega arith))
+point_counts t (x ∷ xs) (suc i) h l =
+    rw (h.0 0 x (omega arith) (omega arith)) (ap suc (point_counts t xs i (
+      (λ k d a b. h.0 (suc k) d (omega arith) (omega arith)),
+      (λ k d a b. h.1 (suc k) d (omega arith) (omega arith)),
+    ) (omega arith)))
+
+-- those at most n: those below it, and its own
+pub count_up_to : {X : Type 0} (f : X → ℕ) (n : ℕ) (xs : List X) → length (filter (λ x. leb (f x) n) xs)
+    ≡ length (filter (λ x. ltb (f x) n) xs) + length (filter (λ x. eqb (f x) n) xs)
+count_up_to f n xs =
+    (λ i. length (filter (λ x. sym (leb-suc-suc (f x) n) i) xs)) ∙ count_more f n xs

@@ -2,6 +2,7 @@
 use Rattle.std.proofs.Common.{◌≡◌, ℕ, ◌+◌, ◌-◌, ◌*◌, ◌<◌, ◌≤◌, Bool, true, not, ◌&&◌, eqb, ltb, leb, List, [], ◌∷◌}
 use Rattle.std.proofs.Common.{length, get_or, take, drop, filter, sym, refl, ap, ◌∙◌, inl, inr, arith}
 use Rattle.std.specs.List.{AllByRecursion}
+use Rattle.std.specs.List.Sorted.{IsNonDecreasingBy}
 use Rattle.std.proofs.ByRecursion.{All-weaker, All-get_or, all_kept_by}
 use Rattle.std.proofs.lemmas.Bool.{and_parts, not-true, cases_Bool, cases_order, ltb-true, leb-true, eqb-true}
 use Rattle.std.proofs.lemmas.Bool.{eqb-false}
@@ -15,6 +16,7 @@ use Rattle.plan.specs.Starts.{link_of, edges_on, edges_before, Starts, copies_on
 use Rattle.plan.specs.Sums.{sum_below}
 use Rattle.plan.proofs.Counting.{before_more}
 use Rattle.plan.proofs.Orders.{Ordered, ordered_from_rising, ordered_weaker, ordered_kept_by, ordered_at}
+use Rattle.plan.proofs.Orders.{non_decreasing}
 use Rattle.plan.proofs.Orders.{all_from_each, few_keys, kept_kept, same_kept, sum_all, sum_same, part_at, part_within}
 
 -- e is an edge from leaf board p to root board q
@@ -151,6 +153,9 @@ module _
       ordered_weaker (λ c. (c.board < boards) × (c.vertex < 1024)) _ _ (λ c d p q h. omega (arith, q.1)) copies
       copies_below copies_ordered
 
+  pub boards_rise : IsNonDecreasingBy (λ (c : CopyRecord). c.board) copies
+  boards_rise = non_decreasing (λ c. c.board) copies copies_by_board
+
   -- the copies of a board stand together, behind those of lower boards
   pub board_part : (p : ℕ)
       → take (length (copies_on copies p)) (drop (copies_before copies p) copies) ≡ copies_on copies p
@@ -190,6 +195,9 @@ module _
       ordered_weaker (λ e. (e.from < 8) × (e.to < 8) × (e.vertex < 1024)) _ _
       (λ e f p q h. omega (arith, q.2)) edges
       edges_low edges_ordered
+
+  pub links_rise : IsNonDecreasingBy link_of edges
+  links_rise = non_decreasing link_of edges edges_by_link
 
   -- ---- the edges between two boards
   module _ (p q : ℕ) where

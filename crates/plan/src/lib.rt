@@ -6,4 +6,5 @@ pub mod fault;
 mod links;
 pub mod parts;
 pub mod records;
+mod rules;
 pub mod view;

@@ -1,5 +1,5 @@
 // A view of a plan's records.
-ghost use Rattle.std.specs.Prelude.{◌≡◌, true, length};
+ghost use Rattle.std.specs.Prelude.{◌≡◌, true};
 ghost use Rattle.plan.specs.Sound.{sound_plan};
 ghost use Rattle.plan.specs.Starts.{Starts};
 
@@ -17,6 +17,5 @@ pub struct PlanView<'a> {
     edges: &'a [Edge],
     starts: [usize; 65],
     ghost sound: { sound_plan boards copies.now edges.now ≡ true },
-    ghost long: { length starts ≡ 65 },
     ghost placed: { Starts starts edges.now },
 }

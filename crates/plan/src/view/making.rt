@@ -4,10 +4,10 @@ ghost use Rattle.plan.specs.Faults.{plan_fault, fault_in};
 ghost use Rattle.plan.specs.Sound.{sound_plan};
 
 use super::PlanView;
-use crate::check::check;
 use crate::fault::PlanFault;
 use crate::links::link_starts;
 use crate::records::{CopyRecord, Edge};
+use crate::rules::Records;
 
 impl<'a> PlanView<'a> {
     // One board and no records.
@@ -39,7 +39,12 @@ impl<'a> PlanView<'a> {
           | Err _ ↦ self.new ≡ self.old
         ] }
     {
-        check(boards, copies, edges)?;
+        let records = Records {
+            boards,
+            copies,
+            edges,
+        };
+        records.check()?;
         *self = PlanView {
             boards,
             copies,

@@ -1,39 +1,24 @@
 // The edges of a link, and a board's copies.
-ghost use Rattle.std.specs.Prelude.{◌≡◌, ℕ, ◌+◌, ◌*◌, ◌<◌, ◌≤◌, ◌⊎◌, length, take, drop};
+ghost use Rattle.std.specs.Prelude.{◌≡◌, ℕ, ◌+◌, ◌*◌, ◌<◌, ◌≤◌, length, take, drop};
 ghost use Rattle.plan.specs.Links.{edges_between};
 ghost use Rattle.plan.specs.Starts.{copies_on, copies_before};
 
 use super::PlanView;
-use crate::parts::{Part, part_on};
+use crate::parts::Part;
 use crate::records::Edge;
 
 impl<'a> PlanView<'a> {
-    // The edges from leaf board `p` to root board `q`.
+    // The edges from leaf board `p` to root board `q`: from the start of their link to that of the next.
+    // None where no plan has such boards.
     pub fn edges_between(&self, p: usize, q: usize) -> &'a [Edge]
         ensures { result.now ≡ edges_between self.now.edges.now p q }
     {
         if p >= 8 || q >= 8 {
-            return self.off_links(p, q);
+            return &[];
         }
-        self.on_link(8 * p + q)
-    }
-
-    // A link's edges: from its start to the next.
-    fn on_link(&self, link: usize) -> &'a [Edge]
-        requires { link < 64 }
-        ensures { (p q : ℕ) → q < 8 → link ≡ 8 * p + q
-            → result.now ≡ edges_between self.now.edges.now p q }
-    {
+        let link = 8 * p + q;
         let edges = self.edges;
         &edges[self.starts[link]..self.starts[link + 1]]
-    }
-
-    // No edges, as no plan has such boards.
-    fn off_links(&self, p: usize, q: usize) -> &'a [Edge]
-        requires { (8 ≤ p) ⊎ (8 ≤ q) }
-        ensures { result.now ≡ edges_between self.now.edges.now p q }
-    {
-        &[]
     }
 
     // Which of the copies are board `p`'s.
@@ -44,6 +29,15 @@ impl<'a> PlanView<'a> {
             ≡ copies_on self.now.copies.now p }
         ensures within { result.from + result.count ≤ length self.now.copies.now }
     {
-        part_on(self.copies, p)
+        let from = self
+            .copies
+            .partition_point(|copy| usize::from(copy.board) < p);
+        let end = self
+            .copies
+            .partition_point(|copy| usize::from(copy.board) <= p);
+        Part {
+            from,
+            count: end - from,
+        }
     }
 }

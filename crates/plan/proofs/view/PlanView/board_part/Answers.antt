@@ -1,20 +1,44 @@
--- A board's copies stand together.
-use Rattle.std.proofs.Common.{length, take, drop, ap, ◌∙◌, arith}
-use Rattle.plan.specs.Starts.{copies_on}
-use Rattle.plan.proofs.Plans.{board_part, board_part_within}
+-- A board's copies stand together, from the end of the first search to that of the second.
+use Rattle.std.proofs.Common.{◌≡◌, ◌+◌, ◌-◌, leb, ltb, length, ◌∙◌, arith, rules}
+use Rattle.std.proofs.lemmas.List.Sorted.{IsPartitionPoint-from_clause, IsPartitionedBy-ltb, IsPartitionedBy-leb}
+use Rattle.plan.specs.Starts.{copies_on, copies_before}
+use Rattle.plan.proofs.Orders.{point_counts, count_up_to}
+use Rattle.plan.proofs.Plans.{boards_rise, board_part}
 use Rattle.plan.proofs.view.PlanView.board_part.Goals as goal
+
+from_is : (c : goal.After-partition_point-end)
+    → c.partition_point-from.result ≡ copies_before c.args.self.now.copies.now c.args.p
+from_is c =
+    let v = c.args.self.now in
+    let rise = boards_rise v.boards v.copies.now v.edges.now v.sound in
+    point_counts _ _ _ (IsPartitionPoint-from_clause (λ d. ltb d.board c.args.p) _ _
+    c.partition_point-from.ensures.partitioned
+    (IsPartitionedBy-ltb (λ d. d.board) v.copies.now c.args.p rise) (λ a r q k. search rules))
+    c.partition_point-from.ensures.bound
+
+end_is : (c : goal.After-partition_point-end) → c.partition_point-end.result
+    ≡ copies_before c.args.self.now.copies.now c.args.p + length (copies_on c.args.self.now.copies.now c.args.p)
+end_is c =
+    let v = c.args.self.now in
+    let rise = boards_rise v.boards v.copies.now v.edges.now v.sound in
+    point_counts _ _ _ (IsPartitionPoint-from_clause (λ d. leb d.board c.args.p) _ _
+    c.partition_point-end.ensures.partitioned
+    (IsPartitionedBy-leb (λ d. d.board) v.copies.now c.args.p rise) (λ a r q k. search rules))
+    c.partition_point-end.ensures.bound
+    ∙ count_up_to (λ d. d.board) c.args.p v.copies.now
+
+pub overflow_sub-result : goal.overflow_sub-result
+overflow_sub-result c = omega (arith, from_is c, end_is c)
 
 pub returns : goal.returns
 returns c =
     let v = c.args.self.now in
-    let r = c.part_on.result in
-    let from = c.part_on.ensures.from in
-    let count = c.part_on.ensures.count in
+    let from = from_is c in
+    let count : c.partition_point-end.result - c.partition_point-from.result
+    ≡ length (copies_on v.copies.now c.args.p) = omega (arith, from_is c, end_is c) in
     record {
       from = from;
       count = count;
-      part = ap (λ n. take n (drop r.from v.copies.now)) count
-          ∙ ap (λ n. take (length (copies_on v.copies.now c.args.p)) (drop n v.copies.now)) from
-          ∙ board_part v.boards v.copies.now v.edges.now v.sound c.args.p;
-      within = omega (arith, board_part_within v.boards v.copies.now v.edges.now v.sound c.args.p);
+      part = rw (count, from) (board_part v.boards v.copies.now v.edges.now v.sound c.args.p);
+      within = omega (arith, from_is c, end_is c, c.partition_point-end.ensures.bound);
     }

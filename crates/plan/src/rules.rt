@@ -1,0 +1,81 @@
+// The rules that each record of a plan keeps.
+ghost use Rattle.std.specs.Prelude.{◌≡◌, ℕ, Bool, List};
+ghost use Rattle.plan.specs.declared.records.CopyRecord.{CopyRecord};
+ghost use Rattle.plan.specs.Sound.{copy_before, copy_fits, edge_before, edge_fits, is_copy};
+
+use crate::records::{CopyRecord, Edge};
+
+// Records that may make a plan.
+#[derive(Clone, Copy)]
+pub(crate) struct Records<'a> {
+    pub(crate) boards: usize,
+    pub(crate) copies: &'a [CopyRecord],
+    pub(crate) edges: &'a [Edge],
+}
+
+impl Records<'_> {
+    // Whether copy number `k` is there, and is this one.
+    fn has_copy(&self, k: u16, copy: CopyRecord) -> bool
+        ensures { result ≡ is_copy self.now.copies.now k copy.board copy.vertex }
+    {
+        self.copies.get(usize::from(k)) == Some(&copy)
+    }
+}
+
+// A record among others of its kind: which of them fit, and in which order they stand.
+pub(crate) trait Record: Copy {
+    ghost fits: { ℕ → List CopyRecord → Self → Bool };
+
+    ghost before: { Self → Self → Bool };
+
+    // Whether it fits, by itself.
+    fn fits(&self, plan: &Records) -> bool
+        ensures { result ≡ fits plan.now.boards plan.now.copies.now self.now };
+
+    fn is_before(&self, next: &Self) -> bool
+        ensures { result ≡ before self.now next.now };
+}
+
+impl Record for CopyRecord {
+    ghost fits = { λ boards _. copy_fits boards };
+
+    ghost before = { copy_before };
+
+    fn fits(&self, plan: &Records) -> bool {
+        usize::from(self.board) < plan.boards && self.vertex < 1024
+    }
+
+    fn is_before(&self, next: &CopyRecord) -> bool {
+        self < next
+    }
+}
+
+impl Record for Edge {
+    ghost fits = { edge_fits };
+
+    ghost before = { edge_before };
+
+    fn fits(&self, plan: &Records) -> bool {
+        let Edge {
+            from,
+            to,
+            vertex,
+            leaf,
+            root,
+        } = *self;
+        let low = usize::from(from) < plan.boards && usize::from(to) < plan.boards && vertex < 1024;
+        let leaf = plan.has_copy(
+            leaf,
+            CopyRecord {
+                board: from,
+                vertex,
+            },
+        );
+        let root = plan.has_copy(root, CopyRecord { board: to, vertex });
+        low && from != to && leaf && root
+    }
+
+    fn is_before(&self, next: &Edge) -> bool {
+        (self.from, self.to, self.vertex) < (next.from, next.to, next.vertex)
+    }
+}
