@@ -14,24 +14,25 @@ pub(crate) struct Records<'a> {
 }
 
 impl Records<'_> {
-    // Whether copy number `k` is there, and is this one.
-    fn has_copy(&self, k: u16, copy: CopyRecord) -> bool
-        ensures { result ≡ is_copy self.now.copies.now k copy.board copy.vertex }
+    // Whether copy number `k` is there, and is the board's copy of the vertex.
+    fn has_copy(&self, k: u16, board: u8, vertex: u16) -> bool
+        ensures { result ≡ is_copy self.now.copies.now k board vertex }
     {
-        self.copies.get(usize::from(k)) == Some(&copy)
+        self.copies.get(usize::from(k)) == Some(&CopyRecord { board, vertex })
     }
 }
 
-// A record among others of its kind: which of them fit, and in which order they stand.
+// A kind of record: which of them fit in a plan, and in which order they stand.
 pub(crate) trait Record: Copy {
     ghost fits: { ℕ → List CopyRecord → Self → Bool };
 
     ghost before: { Self → Self → Bool };
 
-    // Whether it fits, by itself.
+    // Whether it fits, wherever it stands.
     fn fits(&self, plan: &Records) -> bool
         ensures { result ≡ fits plan.now.boards plan.now.copies.now self.now };
 
+    // Whether the other may stand next.
     fn is_before(&self, next: &Self) -> bool
         ensures { result ≡ before self.now next.now };
 }
@@ -56,23 +57,12 @@ impl Record for Edge {
     ghost before = { edge_before };
 
     fn fits(&self, plan: &Records) -> bool {
-        let Edge {
-            from,
-            to,
-            vertex,
-            leaf,
-            root,
-        } = *self;
-        let low = usize::from(from) < plan.boards && usize::from(to) < plan.boards && vertex < 1024;
-        let leaf = plan.has_copy(
-            leaf,
-            CopyRecord {
-                board: from,
-                vertex,
-            },
-        );
-        let root = plan.has_copy(root, CopyRecord { board: to, vertex });
-        low && from != to && leaf && root
+        usize::from(self.from) < plan.boards
+            && usize::from(self.to) < plan.boards
+            && self.vertex < 1024
+            && self.from != self.to
+            && plan.has_copy(self.leaf, self.from, self.vertex)
+            && plan.has_copy(self.root, self.to, self.vertex)
     }
 
     fn is_before(&self, next: &Edge) -> bool {

@@ -29,12 +29,9 @@ impl<'a> PlanView<'a> {
             ≡ copies_on self.now.copies.now p }
         ensures within { result.from + result.count ≤ length self.now.copies.now }
     {
-        let from = self
-            .copies
-            .partition_point(|copy| usize::from(copy.board) < p);
-        let end = self
-            .copies
-            .partition_point(|copy| usize::from(copy.board) <= p);
+        let copies = self.copies;
+        let from = copies.partition_point(|copy| usize::from(copy.board) < p);
+        let end = copies.partition_point(|copy| usize::from(copy.board) <= p);
         Part {
             from,
             count: end - from,
