@@ -3,3 +3,4 @@ pub mod Counting
 pub mod Faultless
 pub mod Orders
 pub mod Plans
+pub mod Searches

@@ -1,10 +1,11 @@
 -- What the rules of a plan give.
-use Rattle.std.proofs.Common.{◌≡◌, ℕ, ◌+◌, ◌-◌, ◌*◌, ◌<◌, ◌≤◌, Bool, true, not, ◌&&◌, eqb, ltb, leb, List, [], ◌∷◌}
+use Rattle.std.proofs.Common.{◌≡◌, ℕ, ◌+◌, ◌-◌, ◌*◌, ◌<◌, ◌≤◌, true, not, ◌&&◌, eqb, ltb, leb, List, [], ◌∷◌}
 use Rattle.std.proofs.Common.{length, get_or, take, drop, filter, sym, refl, ap, ◌∙◌, inl, inr, arith}
-use Rattle.std.specs.List.{AllByRecursion}
+use Rattle.std.specs.List.{All, AllPairs, AllByRecursion}
 use Rattle.std.specs.List.Sorted.{IsNonDecreasingBy}
-use Rattle.std.proofs.ByRecursion.{All-weaker, All-get_or, all_kept_by}
-use Rattle.std.proofs.lemmas.Bool.{and_parts, not-true, cases_Bool, cases_order, ltb-true, leb-true, eqb-true}
+use Rattle.std.proofs.lemmas.List.Elements.{All-filter, filter_passes, recursion_from_All}
+use Rattle.std.proofs.lemmas.List.Kept.{AllPairs-filter}
+use Rattle.std.proofs.lemmas.Bool.{and_parts, not-true, cases_order, ltb-true, leb-true, eqb-true}
 use Rattle.std.proofs.lemmas.Bool.{eqb-false}
 use Rattle.std.proofs.lemmas.Bool.Decides.{nat_tests}
 use Rattle.plan.specs.declared.records.CopyRecord.{CopyRecord}
@@ -15,8 +16,7 @@ use Rattle.plan.specs.Sound.{boards_fit, sound_copies, sound_edges, sound_plan}
 use Rattle.plan.specs.Starts.{link_of, edges_on, edges_before, Starts, copies_on, copies_before}
 use Rattle.plan.specs.Sums.{sum_below}
 use Rattle.plan.proofs.Counting.{before_more}
-use Rattle.plan.proofs.Orders.{Ordered, ordered_from_rising, ordered_weaker, ordered_kept_by, ordered_at}
-use Rattle.plan.proofs.Orders.{non_decreasing}
+use Rattle.plan.proofs.Orders.{pairs_from_rising, pairs_weaker, non_decreasing}
 use Rattle.plan.proofs.Orders.{all_from_each, few_keys, kept_kept, same_kept, sum_all, sum_same, part_at, part_within}
 
 -- e is an edge from leaf board p to root board q
@@ -95,15 +95,6 @@ moved boards copies p q e b f t = record {
   root_vertex = b.root_vertex;
 }
 
--- what passes keeps what holds of all, and passes
-kept_all : {X : Type 0} (t : X → Bool) (P : X → Type 0) (xs : List X) → AllByRecursion P xs
-    → AllByRecursion (λ x. (t x ≡ true) × P x) (filter t xs)
-kept_all t P [] h = tt
-kept_all t P (x ∷ xs) h = elim (cases_Bool (t x)) [
-  | inl e ↦ rw e ((e, h.0), kept_all t P xs h.1)
-  | inr e ↦ rw e (kept_all t P xs h.1)
-]
-
 module _
     (boards : ℕ) (copies : List CopyRecord) (edges : List Edge) (sound : sound_plan boards copies edges ≡ true) where
   boards_part : boards_fit boards ≡ true
@@ -119,22 +110,25 @@ module _
   boards_within = let (a, b) = and_parts (leb 1 boards) _ boards_part in (leb-true _ _ a, leb-true _ _ b)
 
   -- ---- copies
-  pub copies_below : AllByRecursion (λ c. (c.board < boards) × (c.vertex < 1024)) copies
-  copies_below =
-      All-weaker (λ c. copy_fits boards c ≡ true) _
-      (λ c h. let (b, v) = and_parts (ltb c.board boards) _ h in (ltb-true _ _ b, ltb-true _ _ v)) copies
-      (all_from_each (copy_fits boards) copies (and_parts (each (copy_fits boards) copies) _ copies_part).0)
+  copies_fit : All (λ c. (c.board < boards) × (c.vertex < 1024)) copies
+  copies_fit k d l =
+      let fits = all_from_each (copy_fits boards) copies (and_parts (each (copy_fits boards) copies) _ copies_part).0 in
+      let (b, v) = and_parts (ltb (get_or copies k d).board boards) _ (fits k d l) in
+      (ltb-true _ _ b, ltb-true _ _ v)
 
-  copies_ordered : Ordered (λ c d. copy_key c < copy_key d) copies
+  pub copies_below : AllByRecursion (λ c. (c.board < boards) × (c.vertex < 1024)) copies
+  copies_below = recursion_from_All (λ c. (c.board < boards) × (c.vertex < 1024)) copies copies_fit
+
+  copies_ordered : AllPairs (λ c d. copy_key c < copy_key d) copies
   copies_ordered =
-      ordered_from_rising (λ c. (c.board < boards) × (c.vertex < 1024)) _ copy_before
-      (λ c d p q h. copy_key_rises c d p.1 h) (λ c d e h k. omega arith) copies copies_below
+      pairs_from_rising (λ c. (c.board < boards) × (c.vertex < 1024)) (λ c d. copy_key c < copy_key d) copy_before
+      (λ c d p q h. copy_key_rises c d p.1 h) (λ c d e h k. omega arith) copies copies_fit
       (and_parts (each (copy_fits boards) copies) _ copies_part).1
 
   pub few_copies : length copies ≤ 8192
   few_copies =
       few_keys copy_key 8192 copies copies_ordered
-      (All-weaker _ _ (λ c h. let w = boards_within in omega (arith, h.0, h.1)) copies copies_below)
+      (λ k d l. let w = boards_within in let h = copies_fit k d l in omega (arith, h.0, h.1))
 
   -- no two copies have the same board and vertex
   pub copies_differ : (i j : ℕ) → i < length copies → j < length copies
@@ -143,85 +137,78 @@ module _
   copies_differ i j a b s t = elim (cases_order i j) [
     | inl e ↦ e
     | inr d ↦ elim d [
-      | inl l ↦ absurd (omega (arith, ordered_at _ copies no_copy copies_ordered i j l b))
-      | inr l ↦ absurd (omega (arith, ordered_at _ copies no_copy copies_ordered j i l a))
+      | inl l ↦ absurd (omega (arith, copies_ordered i j no_copy l b))
+      | inr l ↦ absurd (omega (arith, copies_ordered j i no_copy l a))
     ]
   ]
 
-  copies_by_board : Ordered (λ c d. c.board ≤ d.board) copies
-  copies_by_board =
-      ordered_weaker (λ c. (c.board < boards) × (c.vertex < 1024)) _ _ (λ c d p q h. omega (arith, q.1)) copies
-      copies_below copies_ordered
-
   pub boards_rise : IsNonDecreasingBy (λ (c : CopyRecord). c.board) copies
-  boards_rise = non_decreasing (λ c. c.board) copies copies_by_board
+  boards_rise =
+      non_decreasing (λ c. c.board) copies
+      (pairs_weaker (λ c. (c.board < boards) × (c.vertex < 1024)) (λ c d. copy_key c < copy_key d)
+      (λ c d. c.board ≤ d.board) (λ c d p q h. omega (arith, q.1)) copies copies_fit copies_ordered)
 
   -- the copies of a board stand together, behind those of lower boards
   pub board_part : (p : ℕ)
       → take (length (copies_on copies p)) (drop (copies_before copies p) copies) ≡ copies_on copies p
-  board_part p = part_at (λ c. c.board) p copies copies_by_board
+  board_part p = part_at (λ c. c.board) p copies boards_rise
 
   pub board_part_within : (p : ℕ) → copies_before copies p + length (copies_on copies p) ≤ length copies
-  board_part_within p = part_within (λ c. c.board) p copies copies_by_board
+  board_part_within p = part_within (λ c. c.board) p copies boards_rise
 
   -- ---- edges
-  pub edges_are : AllByRecursion (λ e. Between boards copies e.from e.to e) edges
-  edges_are =
-      All-weaker (λ e. edge_fits boards copies e ≡ true) _ (edge_is boards copies) edges
-      (all_from_each (edge_fits boards copies) edges
-      (and_parts (each (edge_fits boards copies) edges) _ edges_part).0)
+  pub edges_are : All (λ e. Between boards copies e.from e.to e) edges
+  edges_are k d l =
+      edge_is boards copies _ (all_from_each (edge_fits boards copies) edges
+      (and_parts (each (edge_fits boards copies) edges) _ edges_part).0 k d l)
 
-  edges_low : AllByRecursion (λ e. (e.from < 8) × (e.to < 8) × (e.vertex < 1024)) edges
-  edges_low =
-      All-weaker _ _ (λ e b. let w = boards_within in
-      (omega (arith, b.from_below), omega (arith, b.to_below), b.vertex_below)) edges edges_are
+  edges_low : All (λ e. (e.from < 8) × (e.to < 8) × (e.vertex < 1024)) edges
+  edges_low k d l =
+      let w = boards_within in
+      let b = edges_are k d l in
+      (omega (arith, b.from_below), omega (arith, b.to_below), b.vertex_below)
 
-  pub links_low : AllByRecursion (λ e. link_of e < 64) edges
-  links_low = All-weaker _ _ (λ e b. omega (arith, b.0, b.1)) edges edges_low
-
-  edges_ordered : Ordered (λ e f. edge_key e < edge_key f) edges
+  edges_ordered : AllPairs (λ e f. edge_key e < edge_key f) edges
   edges_ordered =
-      ordered_from_rising (λ e. (e.from < 8) × (e.to < 8) × (e.vertex < 1024)) _ edge_before
+      pairs_from_rising (λ e. (e.from < 8) × (e.to < 8) × (e.vertex < 1024)) (λ e f. edge_key e < edge_key f) edge_before
       (λ e f p q h. edge_key_rises e f p.2 p.1 h) (λ e f g h k. omega arith) edges edges_low
       (and_parts (each (edge_fits boards copies) edges) _ edges_part).1
 
   pub few_edges : length edges ≤ 65536
   few_edges =
       few_keys edge_key 65536 edges edges_ordered
-      (All-weaker _ _ (λ e h. omega (arith, h.0, h.1, h.2)) edges edges_low)
-
-  edges_by_link : Ordered (λ e f. link_of e ≤ link_of f) edges
-  edges_by_link =
-      ordered_weaker (λ e. (e.from < 8) × (e.to < 8) × (e.vertex < 1024)) _ _
-      (λ e f p q h. omega (arith, q.2)) edges
-      edges_low edges_ordered
+      (λ k d l. let h = edges_low k d l in omega (arith, h.0, h.1, h.2))
 
   pub links_rise : IsNonDecreasingBy link_of edges
-  links_rise = non_decreasing link_of edges edges_by_link
+  links_rise =
+      non_decreasing link_of edges
+      (pairs_weaker (λ e. (e.from < 8) × (e.to < 8) × (e.vertex < 1024)) (λ e f. edge_key e < edge_key f)
+      (λ e f. link_of e ≤ link_of f) (λ e f p q h. omega (arith, q.2)) edges edges_low edges_ordered)
 
   -- ---- the edges between two boards
   module _ (p q : ℕ) where
-    pub between_are : AllByRecursion (Between boards copies p q) (edges_between edges p q)
-    between_are =
-        All-weaker (λ e. (joins p q e ≡ true) × Between boards copies e.from e.to e) _
-        (λ e h. let (f, t) = and_parts (eqb e.from p) _ h.0 in
-        moved boards copies p q e h.1 (eqb-true _ _ f) (eqb-true _ _ t))
-        (edges_between edges p q) (kept_all (joins p q) _ edges edges_are)
+    pub between_are : All (Between boards copies p q) (edges_between edges p q)
+    between_are m d l =
+        let (f, t) = and_parts (eqb (get_or (edges_between edges p q) m d).from p) _
+        (filter_passes (joins p q) edges m d l) in
+        moved boards copies p q _
+        (All-filter (joins p q) (λ e. Between boards copies e.from e.to e) edges edges_are m d l)
+        (eqb-true _ _ f) (eqb-true _ _ t)
 
     pub between_at : (m : ℕ) → m < length (edges_between edges p q)
         → Between boards copies p q (get_or (edges_between edges p q) m no_edge)
-    between_at m l = All-get_or (Between boards copies p q) (edges_between edges p q) m no_edge l between_are
+    between_at m l = between_are m no_edge l
 
-    between_ordered : Ordered (λ e f. e.vertex < f.vertex) (edges_between edges p q)
+    between_ordered : AllPairs (λ e f. e.vertex < f.vertex) (edges_between edges p q)
     between_ordered =
-        ordered_weaker (Between boards copies p q) (λ e f. edge_key e < edge_key f) _
+        pairs_weaker (Between boards copies p q) (λ e f. edge_key e < edge_key f) (λ e f. e.vertex < f.vertex)
         (λ e f b d h. omega (arith, b.from_is, b.to_is, d.from_is, d.to_is)) (edges_between edges p q) between_are
-        (ordered_kept_by _ (joins p q) edges edges_ordered)
+        (AllPairs-filter (λ e f. edge_key e < edge_key f) (joins p q) edges edges_ordered)
 
     -- their vertices rise, so no two are the same
     pub between_rises : (m k : ℕ) → m < k → k < length (edges_between edges p q)
         → (get_or (edges_between edges p q) m no_edge).vertex < (get_or (edges_between edges p q) k no_edge).vertex
-    between_rises m k l h = ordered_at _ (edges_between edges p q) no_edge between_ordered m k l h
+    between_rises m k l h = between_ordered m k no_edge l h
 
     pub between_differ : (m k : ℕ) → m < length (edges_between edges p q) → k < length (edges_between edges p q)
         → (get_or (edges_between edges p q) m no_edge).vertex ≡ (get_or (edges_between edges p q) k no_edge).vertex
@@ -250,15 +237,15 @@ module _
     pub few_between : length (edges_between edges p q) ≤ 1024
     few_between =
         few_keys (λ e. e.vertex) 1024 (edges_between edges p q) between_ordered
-        (All-weaker _ _ (λ e b. b.vertex_below) (edges_between edges p q) between_are)
+        (λ m d l. (between_are m d l).vertex_below)
 
     -- none where no edge can be
     pub between_none : ((e : Edge) → Between boards copies p q e → ⊥) → edges_between edges p q ≡ []
     between_none no_such = empty (edges_between edges p q) between_are
       where
-        empty : (es : List Edge) → AllByRecursion (Between boards copies p q) es → es ≡ []
+        empty : (es : List Edge) → All (Between boards copies p q) es → es ≡ []
         empty [] h = refl
-        empty (e ∷ es) h = absurd (no_such e h.0)
+        empty (e ∷ es) h = absurd (no_such e (h 0 e (omega arith)))
 
     pub between_past_from : boards ≤ p → edges_between edges p q ≡ []
     between_past_from l = between_none (λ e b. omega (arith, b.from_below))
@@ -269,7 +256,7 @@ module _
     -- they are the edges of a link
     between_is : q < 8 → edges_between edges p q ≡ filter (λ e. eqb (link_of e) (8 * p + q)) edges
     between_is l =
-        same_kept (joins p q) _ edges (All-weaker _ _ (λ e h. same_link e p q h.1 l) edges edges_low)
+        same_kept (joins p q) _ edges (λ k d b. same_link (get_or edges k d) p q (edges_low k d b).1 l)
 
   pub between_itself : (p : ℕ) → edges_between edges p p ≡ []
   between_itself p = between_none p p (λ e b. b.apart refl)
@@ -277,10 +264,10 @@ module _
   -- every edge is between two boards
   pub edges_sum : length edges ≡ sum_below boards (λ p. sum_below boards (λ q. length (edges_between edges p q)))
   edges_sum =
-      sum_all (λ e. e.from) boards edges (All-weaker _ _ (λ e b. b.from_below) edges edges_are)
+      sum_all (λ e. e.from) boards edges (λ k d l. (edges_are k d l).from_below)
       ∙ sum_same boards _ _ (λ p l.
       sum_all (λ e. e.to) boards (filter (λ e. eqb e.from p) edges)
-      (all_kept_by _ _ edges (All-weaker _ _ (λ e b. b.to_below) edges edges_are))
+      (All-filter (λ e. eqb e.from p) (λ e. e.to < boards) edges (λ k d b. (edges_are k d b).to_below))
       ∙ sum_same boards _ _ (λ q h. ap length (kept_kept (λ e. eqb e.from p) (λ e. eqb e.to q) edges)))
 
   -- a link's edges go from its start to the next, in a table of the starts
@@ -293,7 +280,7 @@ module _
 
     pub link_bounds : (get_or starts x 0 ≤ get_or starts (x + 1) 0) × (get_or starts (x + 1) 0 ≤ length edges)
     link_bounds =
-        let all = part_within link_of x edges edges_by_link in
+        let all = part_within link_of x edges links_rise in
         (omega (arith, start, next), omega (arith, all, next))
 
     pub link_part : (p q : ℕ) → q < 8 → x ≡ 8 * p + q
@@ -302,6 +289,6 @@ module _
         let size : get_or starts (x + 1) 0 - get_or starts x 0 ≡ edges_on edges x = omega (arith, start, next) in
         ap (λ n. take n (drop (get_or starts x 0) edges)) size
         ∙ ap (λ n. take (edges_on edges x) (drop n edges)) start
-        ∙ part_at link_of x edges edges_by_link
+        ∙ part_at link_of x edges links_rise
         ∙ ap (λ y. filter (λ f. eqb (link_of f) y) edges) e
         ∙ sym (between_is p q l)

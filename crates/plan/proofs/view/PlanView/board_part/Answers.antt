@@ -1,8 +1,7 @@
 -- A board's copies stand together, from the end of the first search to that of the second.
-use Rattle.std.proofs.Common.{◌≡◌, ◌+◌, ◌-◌, leb, ltb, length, ◌∙◌, arith, rules}
-use Rattle.std.proofs.lemmas.List.Sorted.{IsPartitionPoint-from_clause, IsPartitionedBy-ltb, IsPartitionedBy-leb}
+use Rattle.std.proofs.Common.{◌≡◌, ◌+◌, ◌-◌, length, arith, rules}
 use Rattle.plan.specs.Starts.{copies_on, copies_before}
-use Rattle.plan.proofs.Orders.{point_counts, count_up_to}
+use Rattle.plan.proofs.Searches.{ends_below, ends_past}
 use Rattle.plan.proofs.Plans.{boards_rise, board_part}
 use Rattle.plan.proofs.view.PlanView.board_part.Goals as goal
 
@@ -10,22 +9,15 @@ from_is : (c : goal.After-partition_point-end)
     → c.partition_point-from.result ≡ copies_before c.args.self.now.copies.now c.args.p
 from_is c =
     let v = c.args.self.now in
-    let rise = boards_rise v.boards v.copies.now v.edges.now v.sound in
-    point_counts _ _ _ (IsPartitionPoint-from_clause (λ d. ltb d.board c.args.p) _ _
-    c.partition_point-from.ensures.partitioned
-    (IsPartitionedBy-ltb (λ d. d.board) v.copies.now c.args.p rise) (λ a r q k. search rules))
-    c.partition_point-from.ensures.bound
+    ends_below (λ d. d.board) c.args.p v.copies.now (boards_rise v.boards v.copies.now v.edges.now v.sound) _
+    c.partition_point-from.ensures.bound c.partition_point-from.ensures.partitioned (λ a r q k. search rules)
 
 end_is : (c : goal.After-partition_point-end) → c.partition_point-end.result
     ≡ copies_before c.args.self.now.copies.now c.args.p + length (copies_on c.args.self.now.copies.now c.args.p)
 end_is c =
     let v = c.args.self.now in
-    let rise = boards_rise v.boards v.copies.now v.edges.now v.sound in
-    point_counts _ _ _ (IsPartitionPoint-from_clause (λ d. leb d.board c.args.p) _ _
-    c.partition_point-end.ensures.partitioned
-    (IsPartitionedBy-leb (λ d. d.board) v.copies.now c.args.p rise) (λ a r q k. search rules))
-    c.partition_point-end.ensures.bound
-    ∙ count_up_to (λ d. d.board) c.args.p v.copies.now
+    ends_past (λ d. d.board) c.args.p v.copies.now (boards_rise v.boards v.copies.now v.edges.now v.sound) _
+    c.partition_point-end.ensures.bound c.partition_point-end.ensures.partitioned (λ a r q k. search rules)
 
 pub overflow_sub-result : goal.overflow_sub-result
 overflow_sub-result c = omega (arith, from_is c, end_is c)
