@@ -1,17 +1,16 @@
 -- What the rules of a plan give.
-use Rattle.std.proofs.Common.{◌≡◌, ℕ, ◌+◌, ◌-◌, ◌*◌, ◌<◌, ◌≤◌, true, not, ◌&&◌, eqb, ltb, leb, List, [], ◌∷◌}
+use Rattle.std.proofs.Common.{◌≡◌, ℕ, ◌+◌, ◌-◌, ◌*◌, ◌<◌, ◌≤◌, true, eqb, ltb, leb, List, [], ◌∷◌}
 use Rattle.std.proofs.Common.{length, get_or, take, drop, filter, sym, refl, ap, ◌∙◌, inl, inr, arith}
 use Rattle.std.specs.List.{All, AllPairs, AllByRecursion}
 use Rattle.std.specs.List.Sorted.{IsNonDecreasingBy}
 use Rattle.std.proofs.lemmas.List.Elements.{All-filter, filter_passes, recursion_from_All}
 use Rattle.std.proofs.lemmas.List.Kept.{AllPairs-filter}
-use Rattle.std.proofs.lemmas.Bool.{and_parts, not-true, cases_order, ltb-true, leb-true, eqb-true}
-use Rattle.std.proofs.lemmas.Bool.{eqb-false}
+use Rattle.std.proofs.lemmas.Bool.{and_parts, cases_order, ltb-true, leb-true, eqb-true}
 use Rattle.std.proofs.lemmas.Bool.Decides.{nat_tests}
 use Rattle.plan.specs.declared.records.CopyRecord.{CopyRecord}
 use Rattle.plan.specs.declared.records.Edge.{Edge}
 use Rattle.plan.specs.Links.{no_copy, no_edge, joins, edges_between}
-use Rattle.plan.specs.Sound.{each, copy_before, edge_before, copy_fits, edge_fits, is_copy}
+use Rattle.plan.specs.Sound.{each, copy_before, edge_before, copy_fits, edge_fits}
 use Rattle.plan.specs.Sound.{boards_fit, sound_copies, sound_edges, sound_plan}
 use Rattle.plan.specs.Starts.{link_of, edges_on, edges_before, Starts, copies_on, copies_before}
 use Rattle.plan.specs.Sums.{sum_below}
@@ -53,30 +52,20 @@ same_link e p q t b = grind (arith, nat_tests)
 -- one kept edge has its boards and its vertex on both copies
 edge_is : (boards : ℕ) (copies : List CopyRecord) (e : Edge) → edge_fits boards copies e ≡ true
     → Between boards copies e.from e.to e
-edge_is boards copies e h =
-    let (low, rest) = and_parts (ltb e.from boards && (ltb e.to boards && ltb e.vertex 1024)) _ h in
-    let (f, low') = and_parts (ltb e.from boards) _ low in
-    let (t, v) = and_parts (ltb e.to boards) _ low' in
-    let (d, ends) = and_parts (not (eqb e.from e.to)) _ rest in
-    let (leaf, root) = and_parts (is_copy copies e.leaf e.from e.vertex) _ ends in
-    let (ll, leaf') = and_parts (ltb e.leaf (length copies)) _ leaf in
-    let (lb, lv) = and_parts (eqb (get_or copies e.leaf no_copy).board e.from) _ leaf' in
-    let (rl, root') = and_parts (ltb e.root (length copies)) _ root in
-    let (rb, rv) = and_parts (eqb (get_or copies e.root no_copy).board e.to) _ root' in
-    record {
-      from_is = refl;
-      to_is = refl;
-      from_below = ltb-true _ _ f;
-      to_below = ltb-true _ _ t;
-      apart = eqb-false _ _ (not-true _ d);
-      vertex_below = ltb-true _ _ v;
-      leaf_below = ltb-true _ _ ll;
-      leaf_board = eqb-true _ _ lb;
-      leaf_vertex = eqb-true _ _ lv;
-      root_below = ltb-true _ _ rl;
-      root_board = eqb-true _ _ rb;
-      root_vertex = eqb-true _ _ rv;
-    }
+edge_is boards copies e h = record {
+  from_is = refl;
+  to_is = refl;
+  from_below = grind (arith, nat_tests);
+  to_below = grind (arith, nat_tests);
+  apart = grind (arith, nat_tests);
+  vertex_below = grind (arith, nat_tests);
+  leaf_below = grind (arith, nat_tests);
+  leaf_board = grind (arith, nat_tests);
+  leaf_vertex = grind (arith, nat_tests);
+  root_below = grind (arith, nat_tests);
+  root_board = grind (arith, nat_tests);
+  root_vertex = grind (arith, nat_tests);
+}
 
 moved : (boards : ℕ) (copies : List CopyRecord) (p q : ℕ) (e : Edge) → Between boards copies e.from e.to e
     → e.from ≡ p → e.to ≡ q → Between boards copies p q e
