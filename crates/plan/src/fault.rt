@@ -14,6 +14,8 @@ pub enum PlanFault {
 }
 
 impl PlanFault {
+    // Kept: a refusal is told by two numbers, and a conversion would say only one of them.
+
     // The refusal's number.
     pub fn number(&self) -> u8
         ensures { result ≡ first_of (plan_numbers self.now) }

@@ -15,6 +15,7 @@ pub struct PlanView<'a> {
     boards: usize,
     copies: &'a [CopyRecord],
     edges: &'a [Edge],
+    // Kept: an array, as this crate has no heap; for each of 64 links, and past the last.
     starts: [usize; 65],
     ghost sound: { sound_plan boards copies.now edges.now ≡ true },
     ghost placed: { Starts starts edges.now },
