@@ -10,7 +10,7 @@ use Rattle.plan.specs.Sound.{each, first_passes, rising, in_place, keeps_rules}
 use Rattle.plan.specs.Faults.{first_bad}
 
 -- the search goes on from record i
-abbrev pub bad_from : {X : Type 0} → (X → Bool) → (X → X → Bool) → X → List X → ℕ → Option ℕ
+abbrev bad_from : {X : Type 0} → (X → Bool) → (X → X → Bool) → X → List X → ℕ → Option ℕ
 bad_from fits before none xs i = first_bad fits before (in_place before none xs i) (drop i xs) i
 
 module _ {X : Type 0} (fits : X → Bool) (before : X → X → Bool) (none : X) (xs : List X) where
@@ -29,17 +29,17 @@ module _ {X : Type 0} (fits : X → Bool) (before : X → X → Bool) (none : X)
       ∙ ap (λ t. cond (keeps_rules fits before none xs i)
       (first_bad fits before t (drop (i + 1) xs) (i + 1)) (Some i)) (sym (after_this i))
 
-  pub bad_more : (i : ℕ) → i < length xs
+  bad_more : (i : ℕ) → i < length xs
       → keeps_rules fits before none xs i ≡ true
       → bad_from fits before none xs (i + 1) ≡ bad_from fits before none xs i
   bad_more i l e = sym (here i l ∙ cond-true _ _ _ e)
 
-  pub bad_here : (i : ℕ) → i < length xs
+  bad_here : (i : ℕ) → i < length xs
       → keeps_rules fits before none xs i ≡ false
       → Some i ≡ bad_from fits before none xs i
   bad_here i l e = sym (here i l ∙ cond-false _ _ _ e)
 
-  pub bad_none : (i : ℕ) → length xs ≤ i → None ≡ bad_from fits before none xs i
+  bad_none : (i : ℕ) → length xs ≤ i → None ≡ bad_from fits before none xs i
   bad_none i l =
       sym (at_drop_all (λ ys. first_bad fits before (in_place before none xs i) ys i) xs i l)
 
@@ -58,7 +58,7 @@ and_swap true false r = refl
 and_swap false true r = refl
 and_swap false false r = refl
 
-pub bad_is : {X : Type 0} (fits : X → Bool) (before : X → X → Bool) (after : X → Bool) (xs : List X) (k : ℕ)
+bad_is : {X : Type 0} (fits : X → Bool) (before : X → X → Bool) (after : X → Bool) (xs : List X) (k : ℕ)
     → is_some (first_bad fits before after xs k) ≡ not (first_passes after xs && (each fits xs && rising before xs))
 bad_is fits before after [] k = refl
 bad_is fits before after (x ∷ xs) k = elim (cases_Bool (after x)) [

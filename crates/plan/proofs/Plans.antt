@@ -33,6 +33,13 @@ pub record Between (boards : ℕ) (copies : List CopyRecord) (p q : ℕ) (e : Ed
   pub root_board : (get_or copies e.root no_copy).board ≡ q
   pub root_vertex : (get_or copies e.root no_copy).vertex ≡ e.vertex
 
+-- what holds of each record that fits
+abbrev CopyLow : ℕ → CopyRecord → Type 0
+CopyLow boards c = (c.board < boards) × (c.vertex < 1024)
+
+abbrev EdgeLow : Edge → Type 0
+EdgeLow e = (e.from < 8) × (e.to < 8) × (e.vertex < 1024)
+
 -- a number that rises with the order of copies, and one with that of edges
 abbrev copy_key : CopyRecord → ℕ
 copy_key c = 1024 * c.board + c.vertex
@@ -99,18 +106,18 @@ module _
   boards_within = let (a, b) = and_parts (leb 1 boards) _ boards_part in (leb-true _ _ a, leb-true _ _ b)
 
   -- ---- copies
-  copies_fit : All (λ c. (c.board < boards) × (c.vertex < 1024)) copies
+  copies_fit : All (CopyLow boards) copies
   copies_fit k d l =
       let fits = all_from_each (copy_fits boards) copies (and_parts (each (copy_fits boards) copies) _ copies_part).0 in
       let (b, v) = and_parts (ltb (get_or copies k d).board boards) _ (fits k d l) in
       (ltb-true _ _ b, ltb-true _ _ v)
 
   pub copies_below : AllByRecursion (λ c. (c.board < boards) × (c.vertex < 1024)) copies
-  copies_below = recursion_from_All (λ c. (c.board < boards) × (c.vertex < 1024)) copies copies_fit
+  copies_below = recursion_from_All (CopyLow boards) copies copies_fit
 
   copies_ordered : AllPairs (λ c d. copy_key c < copy_key d) copies
   copies_ordered =
-      pairs_from_rising (λ c. (c.board < boards) × (c.vertex < 1024)) (λ c d. copy_key c < copy_key d) copy_before
+      pairs_from_rising (CopyLow boards) (λ c d. copy_key c < copy_key d) copy_before
       (λ c d p q h. copy_key_rises c d p.1 h) (λ c d e h k. omega arith) copies copies_fit
       (and_parts (each (copy_fits boards) copies) _ copies_part).1
 
@@ -134,7 +141,7 @@ module _
   pub boards_rise : IsNonDecreasingBy (λ (c : CopyRecord). c.board) copies
   boards_rise =
       non_decreasing (λ c. c.board) copies
-      (pairs_weaker (λ c. (c.board < boards) × (c.vertex < 1024)) (λ c d. copy_key c < copy_key d)
+      (pairs_weaker (CopyLow boards) (λ c d. copy_key c < copy_key d)
       (λ c d. c.board ≤ d.board) (λ c d p q h. omega (arith, q.1)) copies copies_fit copies_ordered)
 
   -- the copies of a board stand together, behind those of lower boards
@@ -151,7 +158,7 @@ module _
       edge_is boards copies _ (all_from_each (edge_fits boards copies) edges
       (and_parts (each (edge_fits boards copies) edges) _ edges_part).0 k d l)
 
-  edges_low : All (λ e. (e.from < 8) × (e.to < 8) × (e.vertex < 1024)) edges
+  edges_low : All EdgeLow edges
   edges_low k d l =
       let w = boards_within in
       let b = edges_are k d l in
@@ -159,7 +166,7 @@ module _
 
   edges_ordered : AllPairs (λ e f. edge_key e < edge_key f) edges
   edges_ordered =
-      pairs_from_rising (λ e. (e.from < 8) × (e.to < 8) × (e.vertex < 1024)) (λ e f. edge_key e < edge_key f) edge_before
+      pairs_from_rising EdgeLow (λ e f. edge_key e < edge_key f) edge_before
       (λ e f p q h. edge_key_rises e f p.2 p.1 h) (λ e f g h k. omega arith) edges edges_low
       (and_parts (each (edge_fits boards copies) edges) _ edges_part).1
 
@@ -171,7 +178,7 @@ module _
   pub links_rise : IsNonDecreasingBy link_of edges
   links_rise =
       non_decreasing link_of edges
-      (pairs_weaker (λ e. (e.from < 8) × (e.to < 8) × (e.vertex < 1024)) (λ e f. edge_key e < edge_key f)
+      (pairs_weaker EdgeLow (λ e f. edge_key e < edge_key f)
       (λ e f. link_of e ≤ link_of f) (λ e f p q h. omega (arith, q.2)) edges edges_low edges_ordered)
 
   -- ---- the edges between two boards
