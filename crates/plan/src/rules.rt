@@ -23,7 +23,7 @@ impl Records<'_> {
 }
 
 // A kind of record: which of them fit in a plan, and in which order they stand.
-pub(crate) trait Record: Copy {
+pub(crate) trait Record {
     ghost fits: { ℕ → List CopyRecord → Self → Bool };
 
     ghost before: { Self → Self → Bool };
