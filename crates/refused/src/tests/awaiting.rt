@@ -34,15 +34,11 @@ fn both_await(
 // The run does not end: its state comes back, and is given up. Answers its tally and why it did not end.
 fn given_up(turning: Turning, plan: &PlanView, table: &LinkTable) -> Option<(Tally, RunFault)> {
     match turning.end(plan, table) {
-        Ok(done) => {
-            let (ended, _) = done;
+        Ok((ended, _)) => {
             ended.close();
             None
         }
-        Err(back) => {
-            let (turning, fault) = back;
-            Some((turning.abandon(), fault))
-        }
+        Err((turning, fault)) => { Some((turning.abandon(), fault)) }
     }
 }
 
@@ -69,9 +65,12 @@ fn deaf_lanes_leave_boards_awaiting(rt: HostRuntime) -> Result<(), Fail> {
     };
     assert!(rt; tally == lossy);
     let own = [5, 7, 1, 4, 6, 9];
-    for k in 0..6usize {
-        assert!(rt; values[k].value == own[k]);
-    }
+    assert!(rt;
+        values
+            .iter()
+            .zip(own)
+            .all(|(depth, value)| depth.value == value)
+    );
     Ok(())
 }
 

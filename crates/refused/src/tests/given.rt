@@ -1,8 +1,8 @@
 // The two triangles: their scene, their plan, and how a run of them starts.
 use element::depth::Depth;
 use exchange::fault::RunFault;
+use exchange::run::Turning;
 use exchange::run::load::load;
-use exchange::run::{Loaded, Turning};
 use medium::frame::Frame;
 use medium::medium::Medium;
 use plan::records::{CopyRecord, Edge};
@@ -101,28 +101,15 @@ pub(crate) fn started<D: Medium>(
     };
     match loaded.start(plan, table, medium, values) {
         Ok(turning) => Ok(turning),
-        Err(back) => {
-            let (loaded, _) = back;
+        Err((loaded, _)) => {
             loaded.discard();
             Err(Fail::new("the start is refused"))
         }
     }
 }
 
-// A refusal's number and its last value, or zeros where nothing is refused.
-pub(crate) fn refusal<T: Drop>(answer: Result<T, RunFault>) -> (usize, usize) {
-    match answer {
-        Ok(_) => (0, 0),
-        Err(fault) => (fault.number(), fault.last()),
-    }
-}
-
-pub(crate) fn load_refusal(answer: Result<Loaded, RunFault>) -> (usize, usize) {
-    match answer {
-        Ok(loaded) => {
-            loaded.discard();
-            (0, 0)
-        }
-        Err(fault) => (fault.number(), fault.last()),
-    }
+// A refusal's number and its last value, if there is a refusal.
+pub(crate) fn refusal<T: Drop>(answer: Result<T, RunFault>) -> Option<(usize, usize)> {
+    let fault = answer.err()?;
+    Some((fault.number(), fault.last()))
 }

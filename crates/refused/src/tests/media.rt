@@ -8,10 +8,8 @@ use std::test::Fail;
 
 // The limit that is refused.
 fn refused_limit(frames: usize) -> Option<usize> {
-    match Limit::new(frames) {
-        Ok(_) => None,
-        Err(QuotaFault::Limit { given }) => Some(given),
-    }
+    let QuotaFault::Limit { given } = Limit::new(frames).err()?;
+    Some(given)
 }
 
 // From p to q no put leaves a frame, and none waits.

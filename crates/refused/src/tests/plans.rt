@@ -61,10 +61,7 @@ fn too_few_edges_are_refused(rt: HostRuntime) -> Result<(), Fail> {
 // Why these records make no plan.
 fn fault_of<'a>(boards: usize, copies: &'a [CopyRecord], edges: &'a [Edge]) -> Option<PlanFault> {
     let mut view = PlanView::new();
-    match view.take(boards, copies, edges) {
-        Ok(()) => None,
-        Err(fault) => Some(fault),
-    }
+    view.take(boards, copies, edges).err()
 }
 
 // The refusal is this one, with these numbers.

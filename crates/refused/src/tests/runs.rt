@@ -1,12 +1,12 @@
 // Calls of a run that are refused.
-use super::given::{NO_DEPTHS, SOME_FRAME, load_refusal, plan, refusal, scene, started};
+use super::given::{NO_DEPTHS, SOME_FRAME, plan, refusal, scene, started};
 use cabinet::settle::settle;
 use element::depth::Depth;
 use element::tags::Tags;
 use exchange::fault::RunFault;
 use exchange::run::drive::{finish, start_anew};
 use exchange::run::load::load;
-use exchange::run::{Ended, Turning};
+use exchange::run::{Ended, Loaded, Turning};
 use medium::medium::Medium;
 use medium::queue::Queue;
 use plan::view::PlanView;
@@ -18,32 +18,31 @@ use std::test::Fail;
 fn loading_another_kind_is_refused(rt: HostRuntime) {
     // There is too little memory as well: the smaller number counts.
     let mut values = [Tags { low: 3, high: 4 }; 5];
-    assert!(rt; load_refusal(load(&scene(), &plan(), &mut values)) == (10, 2));
+    assert!(rt;
+        refusal(load(&scene(), &plan(), &mut values).map(Loaded::discard)) == Some((10, 2))
+    );
     assert!(rt; values == [Tags { low: 3, high: 4 }; 5]);
 }
 
 #[test]
 fn loading_short_memory_is_refused(rt: HostRuntime) {
     let mut values = [Depth { value: 3 }; 5];
-    assert!(rt; load_refusal(load(&scene(), &plan(), &mut values)) == (11, 6));
+    assert!(rt;
+        refusal(load(&scene(), &plan(), &mut values).map(Loaded::discard)) == Some((11, 6))
+    );
     assert!(rt; values == [Depth { value: 3 }; 5]);
 }
 
 // How many copies the state counts that came back, and why the start was refused.
 fn start_refusal(medium: &Queue) -> Option<(usize, RunFault)> {
     let mut values = NO_DEPTHS;
-    let Ok(loaded) = load(&scene(), &plan(), &mut values) else {
-        return None;
-    };
+    let loaded = load(&scene(), &plan(), &mut values).ok()?;
     match loaded.start(&plan(), &mut LinkTable::new(), medium, &values) {
         Ok(turning) => {
             turning.abandon();
             None
         }
-        Err(back) => {
-            let (loaded, fault) = back;
-            Some((loaded.discard(), fault))
-        }
+        Err((loaded, fault)) => { Some((loaded.discard(), fault)) }
     }
 }
 
@@ -68,10 +67,10 @@ fn refuses(
     let mut medium = Queue::new();
     let mut few = [Depth { value: 3 }; 5];
     let stranger = turning.turn(plan, table, &mut medium, &mut few, 2);
-    assert!(rt; refusal(stranger) == (13, 2));
-    assert!(rt; refusal(turning.report(plan, table, 2)) == (13, 2));
+    assert!(rt; refusal(stranger) == Some((13, 2)));
+    assert!(rt; refusal(turning.report(plan, table, 2)) == Some((13, 2)));
     let short = turning.turn(plan, table, &mut medium, &mut few, 0);
-    assert!(rt; refusal(short) == (11, 6));
+    assert!(rt; refusal(short) == Some((11, 6)));
     assert!(rt; few == [Depth { value: 3 }; 5] && turning.tally().turns == 0);
     Ok(())
 }
@@ -92,8 +91,8 @@ fn shows(rt: &impl Abort, ended: &Ended, plan: &PlanView, values: &[Depth; 6]) -
         return Err(Fail::new("board 1 shows nothing"));
     };
     assert!(rt; shown == [Depth { value: 7 }, Depth { value: 6 }, Depth { value: 9 }].as_slice());
-    assert!(rt; refusal(ended.show(plan, values, 2)) == (13, 2));
-    assert!(rt; refusal(ended.show(plan, &values[0..5], 2)) == (11, 6));
+    assert!(rt; refusal(ended.show(plan, values, 2)) == Some((13, 2)));
+    assert!(rt; refusal(ended.show(plan, &values[0..5], 2)) == Some((11, 6)));
     Ok(())
 }
 
@@ -106,14 +105,12 @@ fn showing_is_refused(rt: HostRuntime) -> Result<(), Fail> {
     let mut turning = started(&plan, &mut table, &medium, &mut values)?;
     let _ = settle(&mut turning, &plan, &mut table, &mut medium, &mut values, 9);
     match turning.end(&plan, &table) {
-        Ok(done) => {
-            let (ended, _) = done;
+        Ok((ended, _)) => {
             let seen = shows(&rt, &ended, &plan, &values);
             ended.close();
             seen
         }
-        Err(back) => {
-            let (turning, _) = back;
+        Err((turning, _)) => {
             turning.abandon();
             Err(Fail::new("the run does not end"))
         }
@@ -155,7 +152,7 @@ fn turn_often(
     times: usize,
 ) {
     let mut medium = Queue::new();
-    for _k in 0..times {
+    for _ in 0..times {
         let _ = turning.turn(plan, table, &mut medium, values, 0);
     }
 }
@@ -171,6 +168,6 @@ fn turn_1000001_is_refused(rt: HostRuntime) -> Result<(), Fail> {
     let last = turning.turn(&plan, &mut table, &mut medium, &mut values, 0);
     let stranger = turning.turn(&plan, &mut table, &mut medium, &mut values, 1);
     assert!(rt; turning.abandon().turns == 1000000);
-    assert!(rt; refusal(last) == (14, 1000000) && refusal(stranger) == (13, 1));
+    assert!(rt; refusal(last) == Some((14, 1000000)) && refusal(stranger) == Some((13, 1)));
     Ok(())
 }
