@@ -1,15 +1,15 @@
 -- What a queue keeps in its lanes, and what a put and a take make of it.
-use Rattle.std.specs.Prelude.{◌≡◌, ℕ, ◌+◌, ◌*◌, Bool, false, cond, ◌&&◌, List, [], ◌∷◌, ◌++◌, map, length, take}
+use Rattle.std.specs.Prelude.{◌≡◌, ℕ, ◌+◌, ◌*◌, Bool, false, cond, ◌&&◌, List, [], ◌∷◌, ◌++◌, map, length}
 use Rattle.std.specs.Prelude.{nat_lt, slice_index_or}
+use Rattle.arrayvec.specs.ArrayVec.{ArrayVec}
 use Rattle.medium.specs.Lanes.{Lanes, appended, is_lane, shortened}
 use Rattle.medium.specs.Puts.{Puts, Takes}
 use Rattle.medium.specs.declared.frame.Frame.{Frame}
 use Rattle.medium.specs.declared.queue.Queue.{Queue}
-use Rattle.medium.specs.declared.queue.lane.Lane.{Lane}
 
 -- the frames that wait in one lane
-abbrev pub held : Lane → List Frame
-held l = take l.len l.frames
+abbrev pub held : ArrayVec Frame → List Frame
+held l = l.items
 
 -- a lane with the frame behind the others where there is room, else as it was
 abbrev pub pushed : Bool → Frame → List Frame → List Frame
@@ -20,7 +20,7 @@ abbrev pub lanes_of : List (List Frame) → Lanes
 lanes_of lists p q = cond (is_lane p q) (slice_index_or lists (8 * p + q) []) []
 
 -- the frames that wait in a table of 64 lanes
-abbrev pub table_lanes : List Lane → Lanes
+abbrev pub table_lanes : List (ArrayVec Frame) → Lanes
 table_lanes ls = lanes_of (map held ls)
 
 -- the frames that wait in a queue

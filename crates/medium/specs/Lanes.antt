@@ -1,6 +1,6 @@
 -- The lanes of a medium, and what a put and a take make of them.
-use Rattle.std.specs.Prelude.{◌≡◌, ℕ, Bool, false, cond, ◌&&◌, List, [], ◌∷◌, ◌++◌, drop, replicate, Some, None}
-use Rattle.std.specs.Prelude.{Option, ◌==◌, nat_lt}
+use Rattle.std.specs.Prelude.{◌≡◌, ℕ, ◌+◌, ◌*◌, Bool, true, false, cond, ◌&&◌, List, [], ◌∷◌, ◌++◌, drop, replicate}
+use Rattle.std.specs.Prelude.{Option, Some, None, ◌==◌, nat_lt}
 use Rattle.medium.specs.declared.frame.Frame.{Frame}
 
 -- the frames waiting from the first board to the second, oldest first
@@ -10,6 +10,10 @@ Lanes = ℕ → ℕ → List Frame
 -- a lane leads from a board below 8 to a board below 8
 abbrev pub is_lane : ℕ → ℕ → Bool
 is_lane p q = nat_lt p 8 && nat_lt q 8
+
+-- the place of a lane among the 64
+abbrev pub StandsAt : ℕ → ℕ → ℕ → Type 0
+StandsAt from to at = (is_lane from to ≡ true) × (at ≡ 8 * from + to)
 
 -- the lane from p to q is the one from `from` to `to`
 abbrev pub same_lane : ℕ → ℕ → ℕ → ℕ → Bool

@@ -1,15 +1,19 @@
 -- What the 64 lanes of a queue hold, and after one of them changed.
-use Rattle.std.specs.Prelude.{◌≡◌, ℕ, zero, suc, ◌+◌, ◌*◌, ◌<◌, ◌≤◌, Bool, true, false, cond, ◌&&◌, List, [], ◌∷◌}
-use Rattle.std.specs.Prelude.{◌++◌, map, length, take, replicate, Some, ◌==◌, ◌≢◌, nat_lt, slice_index_or, slice_set}
-use Rattle.std.specs.Prelude.{refl}
-use Rattle.std.proofs.Common.{sym, ap, ap₂, ◌∙◌, ⊎_elim, arith, length-take}
+use Rattle.std.specs.Prelude.{◌≡◌, ℕ, zero, suc, ◌+◌, ◌*◌, ◌<◌, ◌≤◌, ◌↔◌, Bool, true, false, cond, ◌&&◌, List, [], ◌∷◌}
+use Rattle.std.specs.Prelude.{◌++◌, map, length, take, drop, remove, replicate, Option, Some, None, IsSome, OnSome}
+use Rattle.std.specs.Prelude.{IfNone, Result, Ok, Err, ⊤, ◌==◌, ◌≢◌, nat_lt, slice_index_or, slice_set, refl}
+use Rattle.std.specs.List.{All}
+use Rattle.std.specs.Result.{OnOk, OnErr, is_ok}
+use Rattle.std.proofs.Common.{sym, ap, ap₂, ◌∙◌, ⊎_elim, arith}
 use mir.Val.{bool_byte}
 use Rattle.std.proofs.lemmas.Bool.{and_from, and_parts, both_ways, cases_Bool, cond-false, cond-true, eq-eqb}
 use Rattle.std.proofs.lemmas.Bool.{eqb-true, ltb-true}
+use Rattle.std.proofs.lemmas.Grind.{common_steps}
 use Rattle.std.proofs.lemmas.List.{append-nil, get_or-map, get_or-set_other, get_or-set_same, map-set, length-map}
+use Rattle.std.proofs.lemmas.List.Elements.{All-head, All-tail}
+use Rattle.arrayvec.specs.ArrayVec.{ArrayVec, array_vec_len}
 use Rattle.medium.specs.declared.frame.Frame.{Frame}
-use Rattle.medium.specs.declared.queue.lane.Lane.{Lane}
-use Rattle.medium.specs.Lanes.{first, is_lane, same_lane, empty_lanes}
+use Rattle.medium.specs.Lanes.{appended, first, is_lane, same_lane, shortened, StandsAt, empty_lanes}
 use Rattle.medium.specs.Held.{held, lanes_of, pushed, table_lanes}
 use Rattle.medium.specs.Appending.{lanes_agree}
 
@@ -19,27 +23,27 @@ first_taken [] n d p q = absurd (omega arith)
 first_taken (x ∷ xs) zero d p q = absurd (omega arith)
 first_taken (x ∷ xs) (suc n) d p q = refl
 
-held_few : (l : Lane) → length (held l) ≤ 8
-held_few l = simp length-take (omega (arith, l.ok.0))
+-- what holds of the frames of each lane and of no frames holds at any place
+held_at :
+    (P : List Frame → Type 0) → P [] → (ls : List (ArrayVec Frame)) → All (λ l. P (held l)) ls → (k : ℕ) →
+    P (slice_index_or (map held ls) k [])
+held_at P none [] all k = none
+held_at P none (l ∷ ls) all zero = All-head (λ x. P (held x)) l ls all
+held_at P none (l ∷ ls) all (suc k) = held_at P none ls (All-tail (λ x. P (held x)) l ls all) k
 
-pub all_few : (ls : List Lane) (k : ℕ) → length (slice_index_or (map held ls) k []) ≤ 8
-all_few [] k = omega arith
-all_few (l ∷ ls) zero = held_few l
-all_few (l ∷ ls) (suc k) = all_few ls k
-
-none_held : (n : ℕ) (l : Lane) (k : ℕ) → held l ≡ [] → slice_index_or (map held (replicate n l)) k [] ≡ []
-none_held zero l k e = refl
-none_held (suc n) l zero e = e
-none_held (suc n) l (suc k) e = none_held n l k e
+pub all_few :
+    (ls : List (ArrayVec Frame)) → All (λ l. array_vec_len l ≤ 8) ls → (k : ℕ) →
+    length (slice_index_or (map held ls) k []) ≤ 8
+all_few = held_at (λ fs. length fs ≤ 8) (omega arith)
 
 either_none : (b : Bool) (xs : List Frame) → xs ≡ [] → cond b xs [] ≡ []
 either_none true xs e = e
 either_none false xs e = refl
 
 -- where no lane of the table holds a frame, no frame waits
-pub none_waits : (n : ℕ) (l : Lane) → held l ≡ [] → lanes_of (map held (replicate n l)) ≡ empty_lanes
-none_waits n l e =
-    lanes_agree _ _ (λ p q. either_none (is_lane p q) _ (none_held n l (8 * p + q) e))
+pub none_waits : (ls : List (ArrayVec Frame)) → All (λ l. held l ≡ []) ls → table_lanes ls ≡ empty_lanes
+none_waits ls none =
+    lanes_agree _ _ (λ p q. either_none (is_lane p q) _ (held_at (λ fs. fs ≡ []) refl ls none (8 * p + q)))
 
 pub lane_boards : (p q : ℕ) → is_lane p q ≡ true → (p < 8) × (q < 8)
 lane_boards p q b =
@@ -51,7 +55,7 @@ lane_place p q b = omega (arith, (lane_boards p q b).0, (lane_boards p q b).1)
 
 -- the lane from p to q is the one that stands at 8 p + q
 pub lane_held :
-    (ls : List Lane) (p q : ℕ) (d : Lane) → length ls ≡ 64 → is_lane p q ≡ true →
+    (ls : List (ArrayVec Frame)) (p q : ℕ) (d : ArrayVec Frame) → length ls ≡ 64 → is_lane p q ≡ true →
     held (slice_index_or ls (8 * p + q) d) ≡ table_lanes ls p q
 lane_held ls p q d size b =
     sym (get_or-map held ls (8 * p + q) d [] (omega (arith, lane_place p q b))) ∙ sym (cond-true (is_lane p q) _ _ b)
@@ -94,7 +98,7 @@ itself m p q v size b =
 
 -- one lane of the table goes from xs to F xs; every other lane stays
 pub lane_changed :
-    (F : List Frame → List Frame) (ls : List Lane) (from to : ℕ) (l : Lane) → length ls ≡ 64 →
+    (F : List Frame → List Frame) (ls : List (ArrayVec Frame)) (from to : ℕ) (l : ArrayVec Frame) → length ls ≡ 64 →
     is_lane from to ≡ true → held l ≡ F (table_lanes ls from to) → (p q : ℕ) →
     table_lanes (slice_set ls (8 * from + to) l) p q
     ≡ cond (same_lane from to p q) (F (table_lanes ls p q)) (table_lanes ls p q)
@@ -125,3 +129,49 @@ pub count_as : (lane room : Bool) → lane ≡ true → bool_byte room ≡ cond 
 count_as true true e = refl
 count_as true false e = refl
 count_as false room e = absurd (both_ways false refl e)
+
+-- a push that was tried had room exactly where it went well
+tried :
+    {E : Type 0} (r : Result ⊤ E) (was new : ArrayVec Frame) (f : Frame) → OnOk r (held new ≡ held was ++ f ∷ []) →
+    OnErr r (new ≡ was) → held new ≡ pushed (is_ok r) f (held was)
+tried (Ok u) was new f more same = more
+tried (Err e) was new f more same = ap held same
+
+-- a removal at the front took the oldest frame, if one waited
+taken :
+    (r : Option Frame) (was new : ArrayVec Frame) → (IsSome r ↔ (0 < array_vec_len was)) →
+    OnSome r (held new ≡ remove (held was) 0) → IfNone r (new ≡ was) → held new ≡ drop 1 (held was)
+taken (Some f) was new some rest same = rest
+taken None was new some rest same = grind (arith, common_steps)
+
+-- the lane at its place goes from xs to F xs
+place_changed :
+    (F : List Frame → List Frame) (ls : List (ArrayVec Frame)) (from to at : ℕ) (d new : ArrayVec Frame) →
+    length ls ≡ 64 → StandsAt from to at → held new ≡ F (held (slice_index_or ls at d)) → (p q : ℕ) →
+    table_lanes (slice_set ls at new) p q
+    ≡ cond (same_lane from to p q) (F (table_lanes ls p q)) (table_lanes ls p q)
+place_changed F ls from to at d new size here changed p q =
+    let was = ap (λ k. held (slice_index_or ls k d)) here.1 ∙ lane_held ls from to d size here.0 in
+    rw here.1 (lane_changed F ls from to new size here.0 (changed ∙ ap F was) p q)
+
+-- a push that was tried at a lane's place appends one copy where there was room, else none
+pub place_pushed :
+    {E : Type 0} (r : Result ⊤ E) (ls : List (ArrayVec Frame)) (from to at : ℕ) (d new : ArrayVec Frame)
+    (f : Frame) (k : ℕ) → length ls ≡ 64 → StandsAt from to at →
+    OnOk r (held new ≡ held (slice_index_or ls at d) ++ f ∷ []) → OnErr r (new ≡ slice_index_or ls at d) →
+    k ≡ bool_byte (is_ok r) → table_lanes (slice_set ls at new) ≡ appended (table_lanes ls) from to f k
+place_pushed r ls from to at d new f k size here room full count =
+    let was = slice_index_or ls at d in
+    let more : List Frame → List Frame = λ xs. xs ++ replicate k f in
+    let copies = push_as (is_ok r) (held was) f ∙ ap (λ n. held was ++ replicate n f) (sym count) in
+    lanes_agree _ _ (place_changed more ls from to at d new size here (tried r was new f room full ∙ copies))
+
+-- a removal at the front of a lane's place takes the oldest frame, if one waits
+pub place_popped :
+    (r : Option Frame) (ls : List (ArrayVec Frame)) (from to at : ℕ) (d new : ArrayVec Frame) →
+    length ls ≡ 64 → StandsAt from to at →
+    (IsSome r ↔ (0 < array_vec_len (slice_index_or ls at d))) →
+    OnSome r (held new ≡ remove (held (slice_index_or ls at d)) 0) → IfNone r (new ≡ slice_index_or ls at d) →
+    table_lanes (slice_set ls at new) ≡ shortened (table_lanes ls) from to
+place_popped r ls from to at d new size here some rest same =
+    lanes_agree _ _ (place_changed (drop 1) ls from to at d new size here (taken r _ new some rest same))

@@ -7,7 +7,7 @@ pub struct Item {
     pub words: Words,
 }
 
-#[derive(Clone, Copy)]
+#[derive(Clone, Copy, Default)]
 pub struct Frame {
     pub reply: bool,
     pub item: Option<Item>,
