@@ -9,7 +9,7 @@ ghost use Rattle.std.proofs.Common.{rules};
 use crate::frame::Frame;
 use crate::medium::Medium;
 
-#[derive(Clone, Copy)]
+#[derive(Clone, Copy, PartialEq, Eq)]
 pub enum QuotaFault {
     // Refusal 16: a limit outside 1 to 64.
     Limit { given: usize },
@@ -47,7 +47,7 @@ impl Limit {
           | Err e ↦ (IsLimit frames → ⊥) × (e ≡ QuotaFault.Limit frames) × (quota_numbers e ≡ 16 ∷ frames ∷ [])
         ] }
     {
-        if frames < 1 || 64 < frames {
+        if !(1..=64).contains(&frames) {
             return Err(QuotaFault::Limit { given: frames });
         }
         Ok(Limit { frames })
