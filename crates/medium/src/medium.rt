@@ -5,6 +5,7 @@ ghost use Rattle.medium.specs.Puts.{Puts, Takes};
 
 use crate::frame::Frame;
 
+// Kept: the two boards of a lane apart, as the public calls take them; any two numbers are allowed, lane or not.
 pub trait Medium {
     // The frames that wait from each board to each, oldest first.
     ghost lanes: { Self → Lanes };

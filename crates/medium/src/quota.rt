@@ -1,5 +1,5 @@
 // A medium over any medium that refuses a put to a lane where its limit of frames waits.
-ghost use Rattle.std.specs.Prelude.{◌≡◌, ◌≤◌, [], ◌∷◌, Ok, Err};
+ghost use Rattle.std.specs.Prelude.{◌≡◌, [], ◌∷◌, Ok, Err};
 ghost use Rattle.element.specs.Numbers.{first_of, last_of};
 ghost use Rattle.medium.specs.Lanes.{first, shortened};
 ghost use Rattle.medium.specs.Puts.{Rationed};
@@ -15,6 +15,7 @@ pub enum QuotaFault {
     Limit { given: usize },
 }
 
+// Kept: the number and the last value by hand; both calls are public, and a conversion beside them is no plainer.
 impl QuotaFault {
     // The refusal's number.
     pub fn number(&self) -> usize
@@ -37,10 +38,11 @@ impl QuotaFault {
 #[derive(Clone, Copy)]
 pub struct Limit {
     frames: usize,
-    ghost ok: { (1 ≤ frames) × (frames ≤ 64) },
+    ghost ok: { IsLimit frames },
 }
 
 impl Limit {
+    // Kept: a call that is public already; TryFrom beside it would say the same twice.
     pub fn new(frames: usize) -> Result<Limit, QuotaFault>
         ensures { elim result [
           | Ok l ↦ IsLimit frames × (l.frames ≡ frames)
@@ -92,6 +94,7 @@ impl<M: Medium> Medium for Quota<M> {
         }
     }
 
+    // Kept: take and waiting hand on, as in Script; a layer generic in its rule would hide the fields that clauses name.
     fn take(&mut self, from: usize, to: usize) -> Option<Frame>
         ensures value { result ≡ first (M.Medium.lanes self.old.below from to) }
         ensures after { M.Medium.lanes self.new.below ≡ shortened (M.Medium.lanes self.old.below) from to }

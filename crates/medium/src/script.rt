@@ -47,6 +47,7 @@ fn fate_of(n: usize) -> Fate
 pub struct Script<M: Medium> {
     below: M,
     // The number of the next put, modulo the table's length.
+    // Kept: counted, since an iterator round the table is no plainer: the specs go by the entry's number.
     next: usize,
     ghost ok: { next < length table },
 }
@@ -96,6 +97,7 @@ impl<M: Medium> Medium for Script<M> {
         }
     }
 
+    // Kept: take and waiting hand on, as in Quota, with the trait's clauses repeated beside the one of their own.
     fn take(&mut self, from: usize, to: usize) -> Option<Frame>
         ensures value { result ≡ first (M.Medium.lanes self.old.below from to) }
         ensures after { M.Medium.lanes self.new.below ≡ shortened (M.Medium.lanes self.old.below) from to }
