@@ -31,7 +31,7 @@ queue_lanes s = table_lanes s.lanes
 abbrev pub queue_count : Lanes → ℕ → ℕ → ℕ
 queue_count lanes from to = cond (is_lane from to && nat_lt (length (lanes from to)) 8) 1 0
 
--- without a lane nothing of a queue changes, not even what stands past the frames that wait
+-- without a lane nothing of a queue changes
 abbrev pub OutsideKept : Queue → ℕ → ℕ → Queue → Type 0
 OutsideKept s from to t = is_lane from to ≡ false → t ≡ s
 

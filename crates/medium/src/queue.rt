@@ -43,8 +43,8 @@ fn place(from: usize, to: usize) -> Option<usize>
 
 impl Medium for Queue {
     ghost use Rattle.std.specs.Prelude.{◌+◌, ◌*◌, []};
-    ghost use Rattle.std.proofs.Common.{arith, rules};
-    ghost use Rattle.std.proofs.lemmas.Bool.{cond_both};
+    ghost use Rattle.std.proofs.Common.{arith};
+    ghost use Rattle.std.proofs.lemmas.Bool.{cond_both, cond-false};
     ghost use Rattle.medium.specs.Lanes.{Allowed, appended};
     ghost use Rattle.medium.specs.Held.{queue_count, queue_lanes, queue_puts, queue_takes, OutsideKept};
     ghost use Rattle.medium.specs.Tables.{all_few};
@@ -59,7 +59,7 @@ impl Medium for Queue {
         let few = all_few m.lanes m.few (8 * p + q) in
         cond_both (is_lane p q) _ [] (λ l. length l ≤ 64) (λ _. omega arith) (λ _. omega arith) };
 
-    ghost outside = { first_of (Prim.search rules, Prim.grind (arith, Self.row.coded.inj)) };
+    ghost outside = { λ m p q none. cond-false (is_lane p q) _ _ none };
 
     #[tactic(auto, using(crate::specs::Tables::place_pushed))]
     fn put(&mut self, from: usize, to: usize, frame: Frame) -> usize

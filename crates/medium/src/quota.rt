@@ -4,7 +4,6 @@ ghost use Rattle.element.specs.Numbers.{first_of, last_of};
 ghost use Rattle.medium.specs.Lanes.{first, shortened};
 ghost use Rattle.medium.specs.Puts.{Rationed};
 ghost use Rattle.medium.specs.Faults.{IsLimit, quota_numbers};
-ghost use Rattle.std.proofs.Common.{rules};
 
 use crate::frame::Frame;
 use crate::medium::Medium;
@@ -82,9 +81,9 @@ impl<M: Medium> Medium for Quota<M> {
     ghost takes = { λ s from to t.
         (t.limit ≡ s.limit) × M.Medium.takes s.below from to t.below };
 
-    ghost few = { Prim.search rules };
+    ghost few = { λ s. M.Medium.few s.below };
 
-    ghost outside = { Prim.search rules };
+    ghost outside = { λ s. M.Medium.outside s.below };
 
     fn put(&mut self, from: usize, to: usize, frame: Frame) -> usize {
         if self.below.waiting(from, to) < self.limit.frames {

@@ -3,7 +3,6 @@ ghost use Rattle.std.specs.Prelude.{◌≡◌, ◌<◌, length};
 ghost use Rattle.medium.specs.Lanes.{Allowed, appended, first, shortened};
 ghost use Rattle.medium.specs.Puts.{Doubled, Scripted};
 ghost use Rattle.medium.specs.Fates.{code, entry, entry_after, table};
-ghost use Rattle.std.proofs.Common.{rules, arith};
 
 use crate::frame::Frame;
 use crate::medium::Medium;
@@ -83,9 +82,9 @@ impl<M: Medium> Medium for Script<M> {
     ghost takes = { λ s from to t.
         (t.next ≡ s.next) × M.Medium.takes s.below from to t.below };
 
-    ghost few = { first_of (Prim.search rules, Prim.grind (arith, Self.row.coded.inj)) };
+    ghost few = { λ s. M.Medium.few s.below };
 
-    ghost outside = { first_of (Prim.search rules, Prim.grind (arith, Self.row.coded.inj)) };
+    ghost outside = { λ s. M.Medium.outside s.below };
 
     fn put(&mut self, from: usize, to: usize, frame: Frame) -> usize {
         let fate = fate_of(self.next);
