@@ -1,20 +1,22 @@
 -- What the 64 lanes of a queue hold, and after one of them changed.
 use Rattle.std.specs.Prelude.{◌≡◌, ℕ, zero, suc, ◌+◌, ◌*◌, ◌<◌, ◌≤◌, ◌↔◌, Bool, true, false, cond, ◌&&◌, List, [], ◌∷◌}
 use Rattle.std.specs.Prelude.{◌++◌, map, length, take, drop, remove, replicate, Option, Some, None, IsSome, OnSome}
-use Rattle.std.specs.Prelude.{IfNone, Result, Ok, Err, ⊤, ◌==◌, ◌≢◌, nat_lt, slice_index_or, slice_set, refl}
+use Rattle.std.specs.Prelude.{IfNone, Result, Ok, Err, IsOk, ⊤, ◌==◌, ◌≢◌, nat_lt, slice_index_or, slice_set, refl}
+use Rattle.std.specs.Array.{AllOfLen}
 use Rattle.std.specs.List.{All}
 use Rattle.std.specs.Result.{OnOk, OnErr, is_ok}
 use Rattle.std.proofs.Common.{sym, ap, ap₂, ◌∙◌, ⊎_elim, arith}
 use mir.Val.{bool_byte}
 use Rattle.std.proofs.lemmas.Bool.{and_from, and_parts, both_ways, cases_Bool, cond-false, cond-true, eq-eqb}
 use Rattle.std.proofs.lemmas.Bool.{eqb-true, ltb-true}
+use Rattle.std.proofs.lemmas.Bool.Decides.{nat_tests}
 use Rattle.std.proofs.lemmas.Grind.{common_steps}
 use Rattle.std.proofs.lemmas.List.{append-nil, get_or-map, get_or-set_other, get_or-set_same, map-set, length-map}
 use Rattle.std.proofs.lemmas.List.Elements.{All-head, All-tail}
 use Rattle.arrayvec.specs.ArrayVec.{ArrayVec, array_vec_len}
 use Rattle.medium.specs.declared.frame.Frame.{Frame}
 use Rattle.medium.specs.Lanes.{appended, first, is_lane, same_lane, shortened, StandsAt, empty_lanes}
-use Rattle.medium.specs.Held.{held, lanes_of, pushed, table_lanes}
+use Rattle.medium.specs.Held.{held, lanes_of, pushed, queue_count, table_lanes}
 use Rattle.medium.specs.Appending.{lanes_agree}
 
 pub first_taken :
@@ -44,6 +46,15 @@ either_none false xs e = refl
 pub none_waits : (ls : List (ArrayVec Frame)) → All (λ l. held l ≡ []) ls → table_lanes ls ≡ empty_lanes
 none_waits ls none =
     lanes_agree _ _ (λ p q. either_none (is_lane p q) _ (held_at (λ fs. fs ≡ []) refl ls none (8 * p + q)))
+
+-- lanes that were made empty: no frame waits, and each has room
+pub made_empty :
+    (ls : List (ArrayVec Frame)) (n : ℕ) → AllOfLen (λ l. held l ≡ []) ls n → table_lanes ls ≡ empty_lanes
+made_empty ls n all = none_waits ls (λ k d within. all.at k d (omega (arith, all.long)))
+
+pub made_few :
+    (ls : List (ArrayVec Frame)) (n : ℕ) → AllOfLen (λ l. held l ≡ []) ls n → All (λ l. array_vec_len l ≤ 8) ls
+made_few ls n all k d within = omega (arith, ap length (all.at k d (omega (arith, all.long))))
 
 pub lane_boards : (p q : ℕ) → is_lane p q ≡ true → (p < 8) × (q < 8)
 lane_boards p q b =
@@ -130,6 +141,10 @@ count_as true true e = refl
 count_as true false e = refl
 count_as false room e = absurd (both_ways false refl e)
 
+had_room : {E : Type 0} (r : Result ⊤ E) (n : ℕ) → (IsOk r ↔ (n < 8)) → is_ok r ≡ nat_lt n 8
+had_room (Ok u) n room = grind (arith, nat_tests)
+had_room (Err e) n room = grind (arith, nat_tests)
+
 -- a push that was tried had room exactly where it went well
 tried :
     {E : Type 0} (r : Result ⊤ E) (was new : ArrayVec Frame) (f : Frame) → OnOk r (held new ≡ held was ++ f ∷ []) →
@@ -165,6 +180,16 @@ place_pushed r ls from to at d new f k size here room full count =
     let more : List Frame → List Frame = λ xs. xs ++ replicate k f in
     let copies = push_as (is_ok r) (held was) f ∙ ap (λ n. held was ++ replicate n f) (sym count) in
     lanes_agree _ _ (place_changed more ls from to at d new size here (tried r was new f room full ∙ copies))
+
+-- how many copies that is
+pub place_counted :
+    {E : Type 0} (r : Result ⊤ E) (ls : List (ArrayVec Frame)) (from to at : ℕ) (d : ArrayVec Frame) (k : ℕ) →
+    length ls ≡ 64 → StandsAt from to at → (IsOk r ↔ (array_vec_len (slice_index_or ls at d) < 8)) →
+    k ≡ bool_byte (is_ok r) → k ≡ queue_count (table_lanes ls) from to
+place_counted r ls from to at d k size here room count =
+    let was =
+    ap (λ j. length (held (slice_index_or ls j d))) here.1 ∙ ap length (lane_held ls from to d size here.0) in
+    count ∙ ap bool_byte (had_room r _ room ∙ ap (λ n. nat_lt n 8) was) ∙ count_as (is_lane from to) _ here.0
 
 -- a removal at the front of a lane's place takes the oldest frame, if one waits
 pub place_popped :

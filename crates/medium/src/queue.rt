@@ -1,5 +1,6 @@
 // A medium that keeps up to 8 frames a lane.
-ghost use Rattle.std.specs.Prelude.{◌≡◌, ◌≤◌, false, length, MatchOption};
+ghost use Rattle.std.specs.Prelude.{◌≡◌, ◌≤◌, false, [], length, MatchOption};
+ghost use Rattle.std.specs.Array.{AllOfLen};
 ghost use Rattle.std.specs.List.{All};
 ghost use Rattle.arrayvec.specs.ArrayVec.{array_vec_len};
 ghost use Rattle.medium.specs.Lanes.{is_lane, StandsAt};
@@ -21,13 +22,19 @@ impl Queue {
     ghost use Rattle.medium.specs.Held.{queue_lanes};
 
     // No frame waits.
+    #[tactic(auto, using(crate::specs::Tables::made_few))]
     pub fn new() -> Queue
         ensures { queue_lanes result ≡ empty_lanes }
     {
-        Queue {
-            lanes: Default::default(),
-        }
+        Queue { lanes: opened() }
     }
+}
+
+// The table with no frame in any lane.
+fn opened() -> [ArrayVec<Frame, 8>; 64]
+    ensures { AllOfLen (λ l. l.items ≡ []) result 64 }
+{
+    Default::default()
 }
 
 // Where a lane stands in the table, if there is one.
@@ -42,7 +49,7 @@ fn place(from: usize, to: usize) -> Option<usize>
 }
 
 impl Medium for Queue {
-    ghost use Rattle.std.specs.Prelude.{◌+◌, ◌*◌, []};
+    ghost use Rattle.std.specs.Prelude.{◌+◌, ◌*◌};
     ghost use Rattle.std.proofs.Common.{arith};
     ghost use Rattle.std.proofs.lemmas.Bool.{cond_both, cond-false};
     ghost use Rattle.medium.specs.Lanes.{Allowed, appended};
@@ -61,7 +68,7 @@ impl Medium for Queue {
 
     ghost outside = { λ m p q none. cond-false (is_lane p q) _ _ none };
 
-    #[tactic(auto, using(crate::specs::Tables::place_pushed))]
+    #[tactic(auto, using(crate::specs::Tables::place_pushed, crate::specs::Tables::place_counted))]
     fn put(&mut self, from: usize, to: usize, frame: Frame) -> usize
         ensures count { Allowed from to result }
         ensures after { queue_lanes self.new ≡ appended (queue_lanes self.old) from to frame result }
