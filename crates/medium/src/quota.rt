@@ -93,7 +93,7 @@ impl<M: Medium> Medium for Quota<M> {
         }
     }
 
-    // Kept: take and waiting hand on, as in Script; a layer generic in its rule would hide the fields that clauses name.
+    // Kept: take and waiting hand on, as in Script; a layer generic in its rule would hide fields that clauses name.
     fn take(&mut self, from: usize, to: usize) -> Option<Frame>
         ensures value { result ≡ first (M.Medium.lanes self.old.below from to) }
         ensures after { M.Medium.lanes self.new.below ≡ shortened (M.Medium.lanes self.old.below) from to }
