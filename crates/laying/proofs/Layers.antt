@@ -2,11 +2,10 @@
 use Rattle.std.proofs.Common.{◌≡◌, ℕ, ◌+◌, ◌<◌, Bool, true, false, ◌&&◌, ◌||◌, eqb, List, length, get_or, set, sym}
 use Rattle.std.proofs.Common.{ap, ◌∙◌, inl, inr, arith}
 use Rattle.std.specs.List.{AllByRecursion}
-use Rattle.std.proofs.ByRecursion.{All-get_or, All-weaker}
 use Rattle.std.proofs.lemmas.List.{get_or-set_same, get_or-set_other}
 use Rattle.std.proofs.lemmas.Bool.{cases_eq, eq-eqb, ne_eqb}
 use Rattle.std.proofs.lemmas.Bool.Decides.{nat_tests}
-use Rattle.scene.specs.Cells.{Cell, Scene, Sound}
+use Rattle.scene.specs.Cells.{Cell}
 use Rattle.scene.specs.Read.{no_cell}
 use Rattle.forest.specs.Forest.{any, on, touch}
 use Rattle.laying.specs.Seen.{cell_at}
@@ -89,17 +88,3 @@ module _ (cs : List Cell) (t : Cell → Bool) (inside touched : List Bool) where
       (λ d. t d && touch c d)
       (λ d. any_and (t d) (λ x. on x d) c.corners ∙ ap (λ b. t d && b) (touch_sym c d))
       cs
-
-module _ (s : Scene) (ok : Sound s) (c : ℕ) (h : c < length s.cells) where
-  pub corners_low : AllByRecursion (λ v. v < 1024) (cell_at s.cells c).corners
-  corners_low =
-      All-weaker
-      (λ v. v < s.vertices)
-      (λ v. v < 1024)
-      (λ v l. omega (arith, ok.few_vertices))
-      (cell_at s.cells c).corners
-      (All-get_or (λ x. AllByRecursion (λ v. v < s.vertices) x.corners) s.cells c no_cell h ok.on_vertices)
-
-  pub corner_low : (k : ℕ) → k < length (cell_at s.cells c).corners
-      → get_or (cell_at s.cells c).corners k 0 < 1024
-  corner_low k l = All-get_or (λ v. v < 1024) (cell_at s.cells c).corners k 0 l corners_low

@@ -1,6 +1,9 @@
-mod Gather
-mod Links
 mod Anys
-mod Layers
+mod Corners
 pub mod Counts
+mod Filled
+mod Gather
+mod Layers
+mod Links
+mod Lowest
 mod Tied

@@ -1,12 +1,16 @@
 -- How many copies and edges the tables say, and the edges as they are written.
-use Rattle.std.proofs.Common.{◌≡◌, ℕ, zero, suc, ◌+◌, ◌*◌, ◌≤◌, Bool, List, length, ap, ◌∙◌, arith}
+use Rattle.std.proofs.Common.{◌≡◌, ℕ, zero, suc, ◌+◌, ◌*◌, ◌≤◌, Bool, false, List, length, count_by, get_or, take, Option}
+use Rattle.std.proofs.Common.{sym, refl, ap, ◌∙◌, inl, inr, add-one, arith}
 use Rattle.laying.specs.Rows.{flag, many}
 use Rattle.laying.specs.Tables.{row, row_copies, board_copies, copies_in, ghost_in}
 use Rattle.laying.specs.Tables.{edge_if, edge_at, link_edges, link_in}
 use Rattle.laying.proofs.Gather.{length_only, many_le}
 use Rattle.plan.specs.declared.records.CopyRecord.{CopyRecord}
 use Rattle.plan.specs.declared.records.Edge.{Edge}
+use Rattle.std.proofs.lemmas.Bool.{cases_Bool}
 use Rattle.std.proofs.lemmas.List.{length-append}
+use Rattle.std.proofs.lemmas.List.Sums.{count_by_more_yes, count_by_more_no}
+use mir.Val.{bool_byte}
 
 copy : ℕ → ℕ → CopyRecord
 copy p v = record { board = p; vertex = v }
@@ -26,7 +30,7 @@ copies_few table n (suc p) h =
       many_le (flag (row table p)) n,
     )
 
-module _ (mine theirs : List Bool) (owners : List ℕ) (p q : ℕ) where
+module _ (mine theirs : List Bool) (owners : List (Option ℕ)) (p q : ℕ) where
   edge : ℕ → ℕ → ℕ → Edge
   edge x y v = record { from = p; to = q; vertex = v; leaf = x; root = y }
 
@@ -49,10 +53,24 @@ module _ (mine theirs : List Bool) (owners : List ℕ) (p q : ℕ) where
       ∙ ap (λ z. edge_if mine owners p q v (leaf + many (flag mine) v) z) roots
 
 -- the numbers at which the two boards' copies begin
-pub link_is : (table : List (List Bool)) (owners : List ℕ) (n p q leaf root : ℕ)
+pub link_is : (table : List (List Bool)) (owners : List (Option ℕ)) (n p q leaf root : ℕ)
     → leaf ≡ length (copies_in table n p)
     → root ≡ length (copies_in table n q)
     → link_edges (row table p) (row table q) owners p q leaf root n ≡ link_in table owners n p q
 link_is table owners n p q leaf root leaves roots =
     ap (λ z. link_edges (row table p) (row table q) owners p q z root n) leaves
     ∙ ap (λ z. link_edges (row table p) (row table q) owners p q (length (copies_in table n p)) z n) roots
+
+-- the flags set among a row's first n
+pub flags_counted : (row : List Bool) (n : ℕ) → n ≤ length row → count_by (λ b. b) (take n row) ≡ many (flag row) n
+flags_counted row zero h = refl
+flags_counted row (suc n) h =
+    let so_far = flags_counted row n (omega arith) in
+    let more : count_by (λ b. b) (take (suc n) row) ≡ count_by (λ b. b) (take (n + 1) row) =
+    ap (λ k. count_by (λ (b : Bool). b) (take k row)) (sym (add-one n)) in
+    elim (cases_Bool (get_or row n false)) [
+      | inl e ↦
+          omega (arith, more, so_far, count_by_more_yes (λ b. b) row n false (omega arith) e, ap bool_byte e)
+      | inr e ↦
+          omega (arith, more, so_far, count_by_more_no (λ b. b) row n false (omega arith) e, ap bool_byte e)
+    ]

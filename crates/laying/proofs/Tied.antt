@@ -1,22 +1,24 @@
 -- Right tables say the scene's copies and edges.
-use Rattle.std.proofs.Common.{◌≡◌, ℕ, ◌+◌, ◌<◌, ◌≤◌, Bool, not, ◌&&◌, eqb, List, length, get_or, sym, ap, ◌∙◌, arith}
+use Rattle.std.proofs.Common.{◌≡◌, ℕ, ◌+◌, ◌<◌, ◌≤◌, Bool, not, ◌&&◌, eqb, List, length, get_or, None, Option}
+use Rattle.std.proofs.Common.{sym, ap, ◌∙◌, arith}
 use Rattle.scene.specs.Cells.{Scene, Sound}
-use Rattle.forest.specs.Forest.{keeps, owner, copies_of, copies_before, number, ghost_of}
+use Rattle.forest.specs.Forest.{owns_cell_on, keeps, owner, copies_of, copies_before, number, ghost_of}
 use Rattle.forest.specs.Forest.{edge_to, edges_to, edges_of}
 use Rattle.laying.specs.Right.{Right}
-use Rattle.laying.specs.Rows.{Tells, flag, many, only}
-use Rattle.laying.specs.Tables.{row, copy_at, board_copies, copies_in}
+use Rattle.laying.specs.Rows.{Tells, flag, passes, many, only}
+use Rattle.laying.specs.Tables.{owning, row, copy_at, board_copies, copies_in}
 use Rattle.laying.specs.Tables.{ghost_in, edge_at, link_in, board_edges}
 use Rattle.laying.proofs.Counts.{joined_gathered, gathered_same, picked, counted, many_same}
 use Rattle.laying.proofs.Links.{edge_is}
+use Rattle.laying.proofs.Lowest.{lowest_is}
 use Rattle.plan.specs.declared.records.CopyRecord.{CopyRecord}
 
 copy : ℕ → ℕ → CopyRecord
 copy p v = record { board = p; vertex = v }
 
-module _ (s : Scene) (ok : Sound s) (table : List (List Bool)) (owners : List ℕ)
+module _ (s : Scene) (ok : Sound s) (table : List (List Bool)) (owners : List (Option ℕ))
     (rows : (p : ℕ) → p < s.boards → Tells (row table p) 1024 (keeps s p))
-    (owned : (v : ℕ) → v < s.vertices → get_or owners v 0 ≡ owner s v) where
+    (owned : (v : ℕ) → v < s.vertices → get_or owners v None ≡ owning s v) where
   kept_is : (p v : ℕ) → p < s.boards → v < s.vertices → flag (row table p) v ≡ keeps s p v
   kept_is p v h l = rows p h v (omega (arith, ok.few_vertices))
 
@@ -42,11 +44,16 @@ module _ (s : Scene) (ok : Sound s) (table : List (List Bool)) (owners : List �
       let below : p ≤ s.boards = omega arith in
       omega (arith, ap length (before_is p below), counted (keeps s p) v, same)
 
-  ghost_is : (p q v : ℕ) → p < s.boards → v < s.vertices
+  owned_by : (q v : ℕ) → q < s.boards → v < s.vertices
+      → eqb (owner s v) q ≡ passes (λ o. eqb o q) (get_or owners v None)
+  owned_by q v h l =
+      lowest_is (λ p. owns_cell_on s p v) s.boards q h ∙ ap (passes (λ o. eqb o q)) (sym (owned v l))
+
+  ghost_is : (p q v : ℕ) → p < s.boards → q < s.boards → v < s.vertices
       → ghost_of s p q v ≡ ghost_in (row table p) owners p q v
-  ghost_is p q v h l =
+  ghost_is p q v h j l =
       ap (λ b. not (eqb p q) && (b && eqb (owner s v) q)) (sym (kept_is p v h l))
-      ∙ ap (λ o. not (eqb p q) && (flag (row table p) v && eqb o q)) (sym (owned v l))
+      ∙ ap (λ b. not (eqb p q) && (flag (row table p) v && b)) (owned_by q v j l)
 
   link_laid : (p q : ℕ) → p < s.boards → q < s.boards → edges_to s p q ≡ link_in table owners s.vertices p q
   link_laid p q h j =
@@ -59,7 +66,7 @@ module _ (s : Scene) (ok : Sound s) (table : List (List Bool)) (owners : List �
       (edge_at (row table p) (row table q) owners p q leaf root)
       n
       (λ v l.
-      ap (λ b. only b (edge_to s p q v)) (ghost_is p q v h l)
+      ap (λ b. only b (edge_to s p q v)) (ghost_is p q v h j l)
       ∙ edge_is
       (row table p)
       (row table q)

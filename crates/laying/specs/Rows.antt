@@ -1,6 +1,6 @@
 -- What a row of flags tells, and what is counted and gathered number by number.
 use Rattle.std.specs.Prelude.{◌≡◌, ℕ, zero, suc, ◌+◌, ◌<◌, Bool, false, cond, ◌||◌, List, [], ◌∷◌, ◌++◌, length, take}
-use Rattle.std.specs.Prelude.{drop, slice_index_or}
+use Rattle.std.specs.Prelude.{drop, Some, None, Option, slice_index_or}
 use mir.Val.{bool_byte}
 
 -- the flags below n are the test's answers
@@ -20,6 +20,11 @@ many t (suc n) = many t n + bool_byte (t n)
 -- the flag at a place of a row
 abbrev pub flag : List Bool → ℕ → Bool
 flag row v = slice_index_or row v false
+
+-- there is a number, and it passes
+abbrev pub passes : (ℕ → Bool) → Option ℕ → Bool
+passes t None = false
+passes t (Some x) = t x
 
 -- the lists of the numbers below n, one after another
 abbrev pub gathered : {X : Type 0} → (ℕ → List X) → ℕ → List X

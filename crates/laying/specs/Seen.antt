@@ -1,13 +1,9 @@
--- The scene behind a view, and its cells by number.
+-- The cells that a view shows, by number.
 use Rattle.std.specs.Prelude.{ℕ, List, slice_index_or}
-use Rattle.scene.specs.Cells.{Cell, Scene}
-use Rattle.scene.specs.Layout.{scene_of}
+use Rattle.scene.specs.Cells.{Cell}
 use Rattle.scene.specs.Read.{no_cell}
+use Rattle.scene.specs.Views.{viewed}
 use Rattle.scene.specs.declared.view.SceneView.{SceneView}
-
--- the scene that a view shows
-unfoldable pub seen : SceneView → Scene
-seen v = scene_of v.bytes.now
 
 -- cell number c
 abbrev pub cell_at : List Cell → ℕ → Cell
@@ -15,4 +11,4 @@ cell_at cs c = slice_index_or cs c no_cell
 
 -- cell number c of the scene that a view shows
 abbrev pub cell_of : SceneView → ℕ → Cell
-cell_of v c = cell_at (seen v).cells c
+cell_of v c = cell_at (viewed v).cells c

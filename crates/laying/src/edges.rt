@@ -1,197 +1,144 @@
 // Counting and writing the edges of a plan.
 ghost use Rattle.std.specs.Prelude.{◌≡◌, ◌+◌, ◌<◌, ◌≤◌, ◌++◌, length, drop};
-ghost use Rattle.laying.specs.Rows.{many, placed};
-ghost use Rattle.laying.specs.Tables.{copies_in, ghost_in, edge_if, link_edges, board_edges, edges_in};
+ghost use Rattle.laying.specs.Filled.{HasRoom, Appends};
+ghost use Rattle.laying.specs.Rows.{many};
+ghost use Rattle.laying.specs.Tables.{row, copies_in, ghost_in, edge_if, link_in, board_edges, edges_in};
 
-use crate::rows::{count, write_if};
+use crate::filling::Filling;
+use crate::rows::count;
+use crate::tables::Tables;
 use plan::records::Edge;
 
-// A leaf board and a root board, and a copy's number on each.
+// A leaf board and a root board.
 #[derive(Clone, Copy)]
-struct Ends {
-    from: u8,
-    to: u8,
-    leaf: usize,
-    root: usize,
+struct Link<'a> {
+    tables: &'a Tables,
+    from: usize,
+    to: usize,
+    ghost low: { (from < 8) × (to < 8) },
 }
 
-// Whether the leaf board, which keeps `mine`, has a ghost of v whose root is on the root board.
-fn is_ghost(mine: &[bool; 1024], owners: &[u8; 1024], from: u8, to: u8, v: usize) -> bool
-    requires { v < 1024 }
-    ensures { result ≡ ghost_in mine.now owners.now from to v }
-{
-    (from != to) & (mine[v] & (owners[v] == to))
-}
-
-fn count_link(mine: &[bool; 1024], owners: &[u8; 1024], from: u8, to: u8, n: usize) -> usize
-    requires { n ≤ 1024 }
-    ensures { result ≡ many (ghost_in mine.now owners.now from to) n }
-{
-    let mut k = 0;
-    for v in 0..n {
-        k += usize::from(is_ghost(mine, owners, from, to, v));
+impl Link<'_> {
+    // Whether the leaf board has a ghost of v whose root is on the root board.
+    fn is_ghost(&self, v: usize) -> bool
+        requires { v < 1024 }
+        ensures { let t = self.now.tables.now
+            in result ≡ ghost_in (row t.kept self.now.from) t.owners self.now.from self.now.to v }
+    {
+        let kept = &self.tables.kept[self.from];
+        self.from != self.to && kept[v] && self.tables.owners[v] == Some(self.to as u8)
     }
-    k
-}
 
-fn count_board(
-    table: &[[bool; 1024]; 8],
-    owners: &[u8; 1024],
-    p: usize,
-    boards: usize,
-    n: usize,
-) -> usize
-    requires board { p < 8 }
-    requires few { boards ≤ 8 }
-    requires small { n ≤ 1024 }
-    ensures count { result ≡ length (board_edges table.now owners.now n boards p) }
-    ensures limit { result ≤ 8192 }
-{
-    let mut k = 0;
-    for q in 0..boards {
-        k += count_link(&table[p], owners, p as u8, q as u8, n);
+    // How many such ghosts there are.
+    fn count(&self) -> usize
+        ensures { let t = self.now.tables.now in result ≡ many
+            (ghost_in (row t.kept self.now.from) t.owners self.now.from self.now.to) t.vertices }
+    {
+        (0..self.tables.vertices)
+            .filter(|&v| self.is_ghost(v))
+            .count()
     }
-    k
-}
 
-pub(crate) fn count_edges(
-    table: &[[bool; 1024]; 8],
-    owners: &[u8; 1024],
-    boards: usize,
-    n: usize,
-) -> usize
-    requires few { boards ≤ 8 }
-    requires small { n ≤ 1024 }
-    ensures { result ≡ length (edges_in table.now owners.now n boards boards) }
-{
-    let mut k = 0;
-    for p in 0..boards {
-        k += count_board(table, owners, p, boards, n);
-    }
-    k
-}
-
-// Writes the edge at v with these two copies' numbers at place k, if there is a ghost; returns the place behind.
-fn write_edge(
-    mine: &[bool; 1024],
-    owners: &[u8; 1024],
-    ends: Ends,
-    v: usize,
-    out: &mut [Edge],
-    k: usize,
-) -> usize
-    requires low { v < 1024 }
-    requires leaves { ends.leaf < 65536 }
-    requires roots { ends.root < 65536 }
-    requires room { k + length (edge_if mine.now owners.now
-        ends.from ends.to v ends.leaf ends.root) ≤ length out.old }
-    ensures place { result ≡ k + length (edge_if mine.now owners.now
-        ends.from ends.to v ends.leaf ends.root) }
-    ensures after { out.new
-        ≡ placed out.old k (edge_if mine.now owners.now
-        ends.from ends.to v ends.leaf ends.root) }
-{
-    let Ends {
-        from,
-        to,
-        leaf,
-        root,
-    } = ends;
-    let edge = Edge {
-        from,
-        to,
-        vertex: v as u16,
-        leaf: leaf as u16,
-        root: root as u16,
-    };
-    write_if(is_ghost(mine, owners, from, to, v), edge, out, k)
-}
-
-// Writes the edges of one link from place `at` on; returns the place behind them.
-fn write_link(
-    mine: &[bool; 1024],
-    theirs: &[bool; 1024],
-    owners: &[u8; 1024],
-    ends: Ends,
-    n: usize,
-    out: &mut [Edge],
-    at: usize,
-) -> usize
-    requires small { n ≤ 1024 }
-    requires leaves { ends.leaf ≤ 8192 }
-    requires roots { ends.root ≤ 8192 }
-    requires room { at + length (link_edges mine.now theirs.now owners.now
-        ends.from ends.to ends.leaf ends.root n) ≤ length out.old }
-    ensures place { result ≡ at + length (link_edges mine.now theirs.now owners.now
-        ends.from ends.to ends.leaf ends.root n) }
-    ensures after { out.new
-        ≡ placed out.old at (link_edges mine.now theirs.now owners.now
-        ends.from ends.to ends.leaf ends.root n) }
-{
-    let mut k = at;
-    let mut leaf = ends.leaf;
-    let mut root = ends.root;
-    for v in 0..n {
-        k = write_edge(mine, owners, Ends { leaf, root, ..ends }, v, out, k);
-        leaf += usize::from(mine[v]);
-        root += usize::from(theirs[v]);
-    }
-    k
-}
-
-// Writes the edges from board p, whose copies begin at number `leaf`.
-fn write_board(
-    table: &[[bool; 1024]; 8],
-    owners: &[u8; 1024],
-    p: usize,
-    leaf: usize,
-    boards: usize,
-    n: usize,
-    out: &mut [Edge],
-    at: usize,
-) -> usize
-    requires board { p < 8 }
-    requires few { boards ≤ 8 }
-    requires small { n ≤ 1024 }
-    requires begins { leaf ≡ length (copies_in table.now n p) }
-    requires room { at + length (board_edges table.now owners.now n boards p) ≤ length out.old }
-    ensures place { result ≡ at + length (board_edges table.now owners.now n boards p) }
-    ensures after { out.new
-        ≡ placed out.old at (board_edges table.now owners.now n boards p) }
-{
-    let mut k = at;
-    let mut root = 0;
-    for q in 0..boards {
-        let ends = Ends {
-            from: p as u8,
-            to: q as u8,
-            leaf,
-            root,
+    // Appends the edge at v, if there is a ghost, between the copies with these numbers.
+    fn write_edge(&self, v: usize, leaf: usize, root: usize, out: &mut Filling<Edge>)
+        requires low { v < 1024 }
+        requires leaves { leaf < 65536 }
+        requires roots { root < 65536 }
+        requires room { let t = self.now.tables.now in HasRoom out.old
+            (edge_if (row t.kept self.now.from) t.owners self.now.from self.now.to v leaf root) }
+        ensures { let t = self.now.tables.now in Appends out.old out.new
+            (edge_if (row t.kept self.now.from) t.owners self.now.from self.now.to v leaf root) }
+    {
+        let edge = Edge {
+            from: self.from as u8,
+            to: self.to as u8,
+            vertex: v as u16,
+            leaf: leaf as u16,
+            root: root as u16,
         };
-        k = write_link(&table[p], &table[q], owners, ends, n, out, k);
-        root += count(&table[q], n);
+        out.push_if(self.is_ghost(v), edge);
     }
-    k
+
+    // Appends the edges of the link. The boards' copies begin at the numbers `leaf` and `root`.
+    fn write(&self, mut leaf: usize, mut root: usize, out: &mut Filling<Edge>)
+        requires leaves { leaf ≡ length (copies_in self.now.tables.now.kept self.now.tables.now.vertices self.now.from) }
+        requires roots { root ≡ length (copies_in self.now.tables.now.kept self.now.tables.now.vertices self.now.to) }
+        requires room { let t = self.now.tables.now in HasRoom out.old
+            (link_in t.kept t.owners t.vertices self.now.from self.now.to) }
+        ensures { let t = self.now.tables.now in Appends out.old out.new
+            (link_in t.kept t.owners t.vertices self.now.from self.now.to) }
+    {
+        let mine = &self.tables.kept[self.from];
+        let theirs = &self.tables.kept[self.to];
+        for v in 0..self.tables.vertices {
+            self.write_edge(v, leaf, root, out);
+            leaf += usize::from(mine[v]);
+            root += usize::from(theirs[v]);
+        }
+    }
 }
 
-// Writes the edges of all boards.
-pub(crate) fn write_edges(
-    table: &[[bool; 1024]; 8],
-    owners: &[u8; 1024],
-    boards: usize,
-    n: usize,
-    out: &mut [Edge],
-)
-    requires few { boards ≤ 8 }
-    requires small { n ≤ 1024 }
-    requires room { length (edges_in table.now owners.now n boards boards) ≤ length out.old }
-    ensures { out.new ≡ edges_in table.now owners.now n boards boards
-        ++ drop (length (edges_in table.now owners.now n boards boards)) out.old }
-{
-    let mut k = 0;
-    let mut leaf = 0;
-    for p in 0..boards {
-        k = write_board(table, owners, p, leaf, boards, n, out, k);
-        leaf += count(&table[p], n);
+impl Tables {
+    // How many edges go from board p.
+    fn count_board(&self, p: usize) -> usize
+        requires { p < 8 }
+        ensures count { result ≡ length (board_edges self.now.kept self.now.owners self.now.vertices self.now.boards p) }
+        ensures limit { result ≤ 8192 }
+    {
+        let mut edges = 0;
+        for q in 0..self.boards {
+            let link = Link {
+                tables: self,
+                from: p,
+                to: q,
+            };
+            edges += link.count();
+        }
+        edges
+    }
+
+    // How many edges there are.
+    pub(crate) fn count_edges(&self) -> usize
+        ensures { result ≡ length (edges_in self.now.kept self.now.owners self.now.vertices self.now.boards self.now.boards) }
+    {
+        let mut edges = 0;
+        for p in 0..self.boards {
+            edges += self.count_board(p);
+        }
+        edges
+    }
+
+    // Appends the edges from board p, whose copies begin at number `leaf`.
+    fn write_board(&self, p: usize, leaf: usize, out: &mut Filling<Edge>)
+        requires board { p < 8 }
+        requires begins { leaf ≡ length (copies_in self.now.kept self.now.vertices p) }
+        requires room { HasRoom out.old (board_edges self.now.kept self.now.owners self.now.vertices self.now.boards p) }
+        ensures { Appends out.old out.new (board_edges self.now.kept self.now.owners self.now.vertices self.now.boards p) }
+    {
+        let mut root = 0;
+        for q in 0..self.boards {
+            let link = Link {
+                tables: self,
+                from: p,
+                to: q,
+            };
+            link.write(leaf, root, out);
+            root += count(&self.kept[q], self.vertices);
+        }
+    }
+
+    // Writes the edges of all boards.
+    pub(crate) fn write_edges(&self, edges: &mut [Edge])
+        requires { length (edges_in self.now.kept self.now.owners self.now.vertices self.now.boards self.now.boards)
+            ≤ length edges.old }
+        ensures { let laid = edges_in self.now.kept self.now.owners self.now.vertices self.now.boards self.now.boards
+            in edges.new ≡ laid ++ drop (length laid) edges.old }
+    {
+        let mut out = Filling::new(edges);
+        let mut leaf = 0;
+        for p in 0..self.boards {
+            self.write_board(p, leaf, &mut out);
+            leaf += count(&self.kept[p], self.vertices);
+        }
     }
 }

@@ -4,8 +4,9 @@
 mod copies;
 mod edges;
 pub mod fault;
+mod filling;
 pub mod laying;
 mod overlap;
 mod owners;
-mod read;
 mod rows;
+mod tables;

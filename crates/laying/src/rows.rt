@@ -1,28 +1,24 @@
-// Counting flags, and writing records one after another.
-ghost use Rattle.std.specs.Prelude.{◌≡◌, ◌+◌, ◌≤◌, length};
-ghost use Rattle.laying.specs.Rows.{flag, many, only, placed};
+// Rows of flags.
+ghost use Rattle.std.specs.Prelude.{◌≡◌, ℕ, ◌<◌, ◌≤◌};
+ghost use Rattle.laying.specs.Rows.{flag, many};
+
+// Flags the numbers below n that pass the test.
+pub(crate) fn passing<F: Fn(usize) -> bool>(n: usize, test: F) -> [bool; 1024]
+    requires few { n ≤ 1024 }
+    requires callable { F.IsAlwaysCallable test }
+    ensures { (k : ℕ) → k < n → F.post test k (flag result k) }
+{
+    let mut flags = [false; 1024];
+    for k in 0..n {
+        flags[k] = test(k);
+    }
+    flags
+}
 
 // How many of the first n flags are set.
 pub(crate) fn count(row: &[bool; 1024], n: usize) -> usize
     requires { n ≤ 1024 }
     ensures { result ≡ many (flag row.now) n }
 {
-    let mut k = 0;
-    for v in 0..n {
-        k += usize::from(row[v]);
-    }
-    k
-}
-
-// Writes a record at place k if it is wanted; returns the place behind.
-pub(crate) fn write_if<T: Copy>(wanted: bool, entry: T, out: &mut [T], k: usize) -> usize
-    requires { k + length (only wanted entry) ≤ length out.old }
-    ensures place { result ≡ k + length (only wanted entry) }
-    ensures after { out.new ≡ placed out.old k (only wanted entry) }
-{
-    if !wanted {
-        return k;
-    }
-    out[k] = entry;
-    k + 1
+    row[..n].iter().filter(|set| **set).count()
 }

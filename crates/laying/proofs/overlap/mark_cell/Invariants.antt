@@ -1,7 +1,8 @@
 -- The corners below k are marked.
-use Rattle.std.proofs.Common.{◌≡◌, ◌||◌, eqb, length, get_or}
-use Rattle.laying.specs.Seen.{cell_of}
-use Rattle.laying.specs.Rows.{Tells, flag, some}
+use Rattle.std.proofs.Common.{◌≡◌, ◌||◌, eqb, length}
+use Rattle.scene.specs.Read.{corner_of}
+use Rattle.scene.specs.Views.{viewed}
+use Rattle.laying.specs.Rows.{Tells, flag, passes, some}
 use Rattle.laying.proofs.overlap.mark_cell.Given as goal
 
 abbrev pub invariant-loop-k : goal.invariant-loop-k
@@ -10,4 +11,4 @@ invariant-loop-k l =
     × Tells
     l.touched
     1024
-    (λ v. flag l.initial.touched v || some (λ j. eqb (get_or (cell_of l.scene l.c).corners j 0) v) l.k)
+    (λ v. flag l.initial.touched v || some (λ k. passes (λ x. eqb x v) (corner_of (viewed l.scene) l.c k)) l.k)

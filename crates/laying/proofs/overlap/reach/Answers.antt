@@ -1,12 +1,12 @@
 -- The vertices marked are those of the layers' cells.
 use Rattle.forest.specs.Forest.{overlaps}
-use Rattle.laying.specs.Seen.{seen}
+use Rattle.scene.specs.Views.{viewed}
 use Rattle.laying.proofs.Layers.{marked_is}
 use Rattle.laying.proofs.overlap.reach.Goals as goal
 
 pub returns : goal.returns
 returns c =
-    let s = seen c.args.scene.now in
+    let s = viewed c.args.scene.now in
     marked_is
     s.cells
     (overlaps s.cells c.args.p c.args.m)

@@ -1,31 +1,28 @@
--- One corner more, and all corners.
-use Rattle.std.proofs.Common.{◌≡◌, ℕ, Bool, ◌||◌, length, get_or, sym, ap, ◌∙◌, arith}
-use Rattle.laying.specs.Rows.{flag, some}
-use Rattle.laying.specs.Seen.{seen, cell_of}
-use Rattle.laying.proofs.Anys.{some_any}
-use Rattle.laying.proofs.Gather.{some_more}
-use Rattle.laying.proofs.Layers.{corner_low}
+-- Each corner is tested.
+use Rattle.std.proofs.Common.{ℕ, refl, ◌∙◌, arith, rules}
+use Rattle.std.proofs.lemmas.Iterator.{YieldsList-from_range}
+use Rattle.std.proofs.lemmas.Iterator.Search.{any_from_yields_List}
+use borrow.Author.Tests.{tests}
+use Rattle.scene.specs.Read.{corner_of}
+use Rattle.scene.specs.Views.{viewed}
+use Rattle.laying.specs.Rows.{flag, passes}
+use Rattle.laying.proofs.Anys.{some_range}
+use Rattle.laying.proofs.Corners.{some_corner}
 use Rattle.laying.proofs.overlap.touches.Goals as goal
-
-pub bounds-touched-corner : goal.bounds-touched-corner
-bounds-touched-corner c =
-    let s = seen c.args.scene.now in
-    let low = corner_low s c.requires.sound c.args.c c.requires.within c.loop-k.k (omega arith) in
-    omega (arith, c.corner.ensures, low)
-
-pub loop-k-preserved : goal.loop-k-preserved
-loop-k-preserved c =
-    let corners = (cell_of c.args.scene.now c.args.c).corners in
-    let touched = c.args.touched.now in
-    let k = c.loop-k.k in
-    let t : ℕ → Bool = λ j. flag touched (get_or corners j 0) in
-    ap (λ b. b || flag touched c.corner.result) c.loop-k.invariant
-    ∙ ap (λ x. some t k || flag touched x) c.corner.ensures
-    ∙ sym (some_more t k)
 
 pub returns : goal.returns
 returns c =
-    let corners = (cell_of c.args.scene.now c.args.c).corners in
-    let t : ℕ → Bool = λ j. flag c.args.touched.now (get_or corners j 0) in
-    let all : c.loop-k.k ≡ length corners = omega arith in
-    c.loop-k.invariant ∙ ap (some t) all ∙ some_any (flag c.args.touched.now) corners 0
+    let v = c.args.scene.now in
+    let t = flag c.args.touched.now in
+    let test = λ (k : ℕ). passes t (corner_of (viewed v) c.args.c k) in
+    let n = c.corners.result in
+    any_from_yields_List
+    test
+    _
+    _
+    _
+    c.any.ensures.ran
+    (YieldsList-from_range 0 n n refl (omega arith))
+    (λ x b q k. search (rules, tests))
+    ∙ some_range test n
+    ∙ some_corner v c.args.c t n c.corners.ensures

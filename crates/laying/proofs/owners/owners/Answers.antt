@@ -1,26 +1,31 @@
 -- One board more.
-use Rattle.std.proofs.Common.{◌≡◌, ℕ, suc, ◌<◌, Bool, cond, ltb, sym, refl, ap, ◌∙◌, add-one, arith, rules}
+use Rattle.std.proofs.Common.{ℕ, Bool, None, sym, refl, ap, ◌∙◌, arith, rules}
+use Rattle.std.specs.Bool.{then_some}
+use Rattle.std.specs.Option.{option_or}
 use Rattle.std.proofs.lemmas.List.{get_or-replicate}
-use Rattle.forest.specs.Forest.{lowest, owns_cell_on}
+use Rattle.forest.specs.Forest.{owns_cell_on}
+use Rattle.scene.proofs.Viewing.{view_sound}
+use Rattle.scene.specs.Views.{viewed}
 use Rattle.laying.specs.Rows.{flag}
-use Rattle.laying.specs.Seen.{seen}
+use Rattle.laying.specs.Tables.{lowest_below}
+use Rattle.laying.proofs.Lowest.{lowest_more}
 use Rattle.laying.proofs.owners.owners.Goals as goal
 
 pub loop-p-init : goal.loop-p-init
-loop-p-init c = (refl, λ v h. get_or-replicate 1024 v 0 0 (omega (arith, c.requires.few_vertices)))
+loop-p-init c =
+    (refl, λ v h. get_or-replicate 1024 v None None (omega (arith, (view_sound c.args.scene.now).few_vertices)))
 
 pub loop-p-preserved : goal.loop-p-preserved
 loop-p-preserved c =
-    let s = seen c.args.scene.now in
+    let v = c.args.scene.now in
+    let s = viewed v in
+    let few = (view_sound v).few_vertices in
     let p = c.loop-p.p in (
       search rules,
-      λ v h.
-          let t : ℕ → Bool = λ q. owns_cell_on s q v in
-          let mine = flag c.own_vertices-mine.result v in
-          let here : mine ≡ t p = c.own_vertices-mine.ensures v (omega (arith, c.requires.few_vertices)) in
-          let low : v < c.vertices.result = omega (arith, c.vertices.ensures) in
-          c.settle.ensures v low
-          ∙ ap (λ o. cond (ltb o p) o (cond mine p (suc p))) (c.loop-p.invariant.1 v h)
-          ∙ ap (λ b. cond (ltb (lowest t p) p) (lowest t p) (cond b p (suc p))) here
-          ∙ ap (lowest t) (sym (add-one p)),
+      λ x h.
+          let t : ℕ → Bool = λ q. owns_cell_on s q x in
+          c.settle.ensures x (omega (arith, c.vertices.ensures))
+          ∙ ap (λ o. option_or o (then_some (flag c.reach-mine.result x) p)) (c.loop-p.invariant.1 x h)
+          ∙ ap (λ b. option_or (lowest_below t p) (then_some b p)) (c.reach-mine.ensures x (omega arith))
+          ∙ sym (lowest_more t p),
     )

@@ -1,18 +1,10 @@
--- One flag more.
-use Rattle.std.proofs.Common.{◌+◌, ◌≤◌, arith, rules}
-use Rattle.laying.specs.Rows.{flag}
-use Rattle.laying.proofs.Gather.{many_more, many_le, byte_le}
+-- The flags set among the first n.
+use Rattle.std.proofs.Common.{◌≡◌, count_by, take, ◌∙◌, arith, rules}
+use Rattle.std.proofs.iter.runs.Made.{chains}
+use Rattle.laying.proofs.Links.{flags_counted}
 use Rattle.laying.proofs.rows.count.Goals as goal
 
-pub overflow_add-k : goal.overflow_add-k
-overflow_add-k c =
-    let f = flag c.args.row.now in
-    let v = c.loop-v.v in
-    let small : c.loop-v.k + c.from-k.result ≤ 2048 =
-    omega (arith, c.loop-v.invariant, many_le f v, byte_le (f v), c.from-k.ensures)
-    in
-    search rules
-
-pub loop-v-preserved : goal.loop-v-preserved
-loop-v-preserved c =
-    omega (arith, c.loop-v.invariant, many_more (flag c.args.row.now) c.loop-v.v, c.from-k.ensures)
+pub returns : goal.returns
+returns c =
+    let set : c.count.result ≡ count_by (λ b. b) (take c.args.n c.args.row.now) = search (rules, chains) in
+    set ∙ flags_counted c.args.row.now c.args.n (omega arith)

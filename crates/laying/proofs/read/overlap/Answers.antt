@@ -1,7 +1,0 @@
--- What the view says is what its scene has.
-use Rattle.laying.specs.Seen.{seen}
-use Rattle.laying.proofs.read.overlap.Goals as goal
-
-pub returns : goal.returns
-unfolding seen
-returns c = c.overlap.ensures

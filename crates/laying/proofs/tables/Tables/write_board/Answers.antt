@@ -1,0 +1,70 @@
+-- One root board more.
+use Rattle.std.proofs.Common.{◌+◌, ◌≤◌, refl, arith, rules}
+use Rattle.laying.specs.Rows.{flag}
+use Rattle.laying.specs.Tables.{row, link_in, board_copies}
+use Rattle.laying.proofs.Filled.{appends_none, appends_more, room_left}
+use Rattle.laying.proofs.Gather.{length_more, many_le}
+use Rattle.laying.proofs.Links.{row_size, copies_few}
+use Rattle.laying.proofs.tables.Tables.write_board.Goals as goal
+
+pub loop-q-init : goal.loop-q-init
+loop-q-init c = record { roots = refl; written = appends_none c.args.out.now }
+
+pub write-requires : goal.write-requires
+write-requires c =
+    let t = c.args.self.now in
+    let inv = c.loop-q.invariant in
+    let links = link_in t.kept t.owners t.vertices c.args.p in
+    record {
+      leaves = c.requires.begins;
+      roots = inv.roots;
+      room =
+          room_left links c.loop-q.q t.boards c.args.out.now c.loop-q.out c.loop-q-test.true
+          c.requires.room inv.written;
+    }
+
+pub overflow_add-root : goal.overflow_add-root
+overflow_add-root c =
+    let t = c.args.self.now in
+    let q = c.loop-q.q in
+    let small : c.loop-q.root + c.count-root.result ≤ 16384 =
+    omega (
+      arith,
+      c.loop-q.invariant.roots,
+      copies_few t.kept t.vertices q t.small,
+      many_le (flag (row t.kept q)) t.vertices,
+      c.count-root.ensures,
+      t.few,
+      t.small,
+    )
+    in
+    search rules
+
+pub loop-q-preserved : goal.loop-q-preserved
+loop-q-preserved c =
+    let t = c.args.self.now in
+    let n = t.vertices in
+    let q = c.loop-q.q in
+    let inv = c.loop-q.invariant in
+    record {
+      roots =
+          omega (
+            arith,
+            inv.roots,
+            length_more (board_copies t.kept n) q,
+            row_size (row t.kept q) q n,
+            c.count-root.ensures,
+          );
+      written =
+          appends_more
+          (link_in t.kept t.owners n c.args.p)
+          q
+          t.boards
+          c.args.out.now
+          c.loop-q.out
+          c.loop-q-test.true
+          c.requires.room
+          c.write.new.out
+          inv.written
+          c.write.ensures;
+    }

@@ -1,0 +1,59 @@
+-- One board more.
+use Rattle.std.proofs.Common.{◌≡◌, ◌++◌, length, drop, subst, ap, ◌∙◌, arith, rules}
+use Rattle.laying.specs.Filled.{HasRoom, Appends}
+use Rattle.laying.specs.Tables.{board_copies, copies_in}
+use Rattle.laying.proofs.Filled.{appends_none, appends_more, room_left, filled}
+use Rattle.laying.proofs.tables.Tables.write_copies.Goals as goal
+
+pub loop-p-init : goal.loop-p-init
+loop-p-init c = appends_none c.new-out.result
+
+pub write_row-requires-clause-room : goal.write_row-requires-clause-room
+write_row-requires-clause-room c =
+    let t = c.args.self.now in
+    let start = c.new-out.result in
+    let fits : HasRoom start (copies_in t.kept t.vertices t.boards) =
+    omega (arith, c.requires, c.new-out.ensures.none, ap length c.new-out.ensures.kept)
+    in
+    room_left
+    (board_copies t.kept t.vertices)
+    c.loop-p.p
+    t.boards
+    start
+    c.loop-p.out
+    c.loop-p-test.true
+    fits
+    c.loop-p.invariant
+
+pub loop-p-preserved : goal.loop-p-preserved
+loop-p-preserved c =
+    let t = c.args.self.now in
+    let start = c.new-out.result in
+    let fits : HasRoom start (copies_in t.kept t.vertices t.boards) =
+    omega (arith, c.requires, c.new-out.ensures.none, ap length c.new-out.ensures.kept)
+    in
+    appends_more
+    (board_copies t.kept t.vertices)
+    c.loop-p.p
+    t.boards
+    start
+    c.loop-p.out
+    c.loop-p-test.true
+    fits
+    c.write_row.new.out
+    c.loop-p.invariant
+    c.write_row.ensures
+
+pub returns : goal.returns
+returns c =
+    let t = c.args.self.now in
+    let start = c.new-out.result in
+    let out = c.loop-p.out in
+    let all : c.loop-p.p ≡ t.boards = omega arith in
+    let appended = subst (λ p. Appends start out (copies_in t.kept t.vertices p)) all c.loop-p.invariant in
+    let same = appended.same ∙ c.new-out.ensures.same in
+    let laid = copies_in t.kept t.vertices t.boards in
+    let written : out.out.now ≡ laid ++ drop (length laid) c.args.copies.now =
+    filled start out c.args.copies.now laid c.new-out.ensures.none c.new-out.ensures.kept appended
+    in
+    search rules

@@ -1,0 +1,34 @@
+// The working tables of a scene, from which its plan is counted and written.
+ghost use Rattle.std.specs.Prelude.{◌≡◌, ◌≤◌};
+ghost use Rattle.scene.specs.Views.{viewed};
+ghost use Rattle.laying.specs.Right.{Right};
+
+use crate::overlap::keep_all;
+use crate::owners::owners;
+use scene::view::SceneView;
+
+// For each board the vertices that it keeps, and for each vertex the board that it belongs to.
+#[derive(Drop)]
+pub(crate) struct Tables {
+    pub(crate) kept: [[bool; 1024]; 8],
+    pub(crate) owners: [Option<u8>; 1024],
+    pub(crate) boards: usize,
+    pub(crate) vertices: usize,
+    ghost few: { boards ≤ 8 },
+    ghost small: { vertices ≤ 1024 },
+}
+
+impl Tables {
+    pub(crate) fn of(scene: &SceneView) -> Tables
+        ensures boards { result.boards ≡ (viewed scene.now).boards }
+        ensures vertices { result.vertices ≡ (viewed scene.now).vertices }
+        ensures right { Right (viewed scene.now) result.kept result.owners }
+    {
+        Tables {
+            kept: keep_all(scene),
+            owners: owners(scene),
+            boards: scene.boards(),
+            vertices: scene.vertices(),
+        }
+    }
+}
