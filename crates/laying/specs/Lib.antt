@@ -3,6 +3,7 @@ pub mod Seen
 pub mod Rows
 pub mod Filled
 pub mod Tables
+pub mod Said
 pub mod Faults
 pub mod Right
 pub mod Laid

@@ -1,7 +1,8 @@
 // Counting and writing the copies of a plan.
-ghost use Rattle.std.specs.Prelude.{◌≡◌, ◌<◌, ◌≤◌, ◌++◌, length, drop};
+ghost use Rattle.std.specs.Prelude.{◌≡◌, ◌≤◌, ◌++◌, length, drop};
 ghost use Rattle.laying.specs.Filled.{HasRoom, Appends};
-ghost use Rattle.laying.specs.Tables.{copy_at, row_copies, copies_in};
+ghost use Rattle.laying.specs.Said.{all_copies};
+ghost use Rattle.laying.specs.Tables.{row_copies};
 
 use crate::filling::Filling;
 use crate::rows::count;
@@ -26,7 +27,7 @@ fn write_row(row: &[bool; 1024], p: u8, n: usize, out: &mut Filling<CopyRecord>)
 impl Tables {
     // How many copies the boards keep.
     pub(crate) fn count_copies(&self) -> usize
-        ensures { result ≡ length (copies_in self.now.kept self.now.vertices self.now.boards) }
+        ensures { result ≡ length (all_copies self.now) }
     {
         let mut copies = 0;
         for p in 0..self.boards {
@@ -37,10 +38,9 @@ impl Tables {
 
     // Writes the copies of all boards.
     pub(crate) fn write_copies(&self, copies: &mut [CopyRecord])
-        requires { length (copies_in self.now.kept self.now.vertices self.now.boards)
-            ≤ length copies.old }
-        ensures { let laid = copies_in self.now.kept self.now.vertices self.now.boards
-            in copies.new ≡ laid ++ drop (length laid) copies.old }
+        requires { length (all_copies self.now) ≤ length copies.old }
+        ensures { copies.new
+            ≡ all_copies self.now ++ drop (length (all_copies self.now)) copies.old }
     {
         let mut out = Filling::new(copies);
         for p in 0..self.boards {
