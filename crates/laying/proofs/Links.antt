@@ -1,15 +1,15 @@
 -- How many copies and edges the tables say, and the edges as they are written.
-use Rattle.std.proofs.Common.{◌≡◌, ℕ, zero, suc, ◌+◌, ◌*◌, ◌≤◌, Bool, false, List, length, count_by, get_or, take, Option}
+use Rattle.std.proofs.Common.{◌≡◌, ℕ, zero, suc, ◌+◌, ◌*◌, ◌≤◌, Bool, false, List, [], length, count_by, sum_by, get_or, take, Option}
 use Rattle.std.proofs.Common.{sym, refl, ap, ◌∙◌, inl, inr, add-one, arith}
 use Rattle.laying.specs.Rows.{flag, many}
 use Rattle.laying.specs.Tables.{row, row_copies, board_copies, copies_in, ghost_in}
-use Rattle.laying.specs.Tables.{edge_if, edge_at, link_edges, link_in}
+use Rattle.laying.specs.Tables.{edge_if, edge_at, link_edges}
 use Rattle.laying.proofs.Gather.{length_only, many_le}
 use Rattle.plan.specs.declared.records.CopyRecord.{CopyRecord}
 use Rattle.plan.specs.declared.records.Edge.{Edge}
-use Rattle.std.proofs.lemmas.Bool.{cases_Bool}
-use Rattle.std.proofs.lemmas.List.{length-append}
-use Rattle.std.proofs.lemmas.List.Sums.{count_by_more_yes, count_by_more_no}
+use Rattle.std.proofs.lemmas.Bool.{cases_Bool, cases_lt}
+use Rattle.std.proofs.lemmas.List.{length-append, take_all, get_or_past}
+use Rattle.std.proofs.lemmas.List.Sums.{count_by_more_yes, count_by_more_no, sum_by_more}
 use mir.Val.{bool_byte}
 
 copy : ℕ → ℕ → CopyRecord
@@ -52,14 +52,29 @@ module _ (mine theirs : List Bool) (owners : List (Option ℕ)) (p q : ℕ) wher
       ap (λ z. edge_if mine owners p q v z y) leaves
       ∙ ap (λ z. edge_if mine owners p q v (leaf + many (flag mine) v) z) roots
 
--- the numbers at which the two boards' copies begin
-pub link_is : (table : List (List Bool)) (owners : List (Option ℕ)) (n p q leaf root : ℕ)
-    → leaf ≡ length (copies_in table n p)
-    → root ≡ length (copies_in table n q)
-    → link_edges (row table p) (row table q) owners p q leaf root n ≡ link_in table owners n p q
-link_is table owners n p q leaf root leaves roots =
-    ap (λ z. link_edges (row table p) (row table q) owners p q z root n) leaves
-    ∙ ap (λ z. link_edges (row table p) (row table q) owners p q (length (copies_in table n p)) z n) roots
+none_set : (n : ℕ) → many (flag []) n ≡ 0
+none_set zero = refl
+none_set (suc n) = omega (arith, none_set n)
+
+-- the copies of the boards below p, counted row by row
+pub rows_counted : (table : List (List Bool)) (n p : ℕ)
+    → sum_by (λ r. many (flag r) n) (take p table) ≡ length (copies_in table n p)
+rows_counted table n zero = refl
+rows_counted table n (suc p) =
+    let counted : List Bool → ℕ = λ r. many (flag r) n in
+    let so_far = rows_counted table n p in
+    let more : sum_by counted (take (suc p) table) ≡ sum_by counted (take (p + 1) table) =
+    ap (λ k. sum_by counted (take k table)) (sym (add-one p)) in
+    let size = row_size (row table p) p n in
+    let all = length-append (copies_in table n p) (board_copies table n p) in
+    elim (cases_lt p (length table)) [
+      | inl h ↦ omega (arith, more, so_far, sum_by_more counted table p [] h, size, all)
+      | inr h ↦
+          let same : sum_by counted (take (p + 1) table) ≡ sum_by counted (take p table) =
+          ap (sum_by counted) (take_all (p + 1) table (omega arith) ∙ sym (take_all p table h)) in
+          let none : counted (row table p) ≡ 0 = ap counted (get_or_past table p [] h) ∙ none_set n in
+          omega (arith, more, so_far, same, none, size, all)
+    ]
 
 -- the flags set among a row's first n
 pub flags_counted : (row : List Bool) (n : ℕ) → n ≤ length row → count_by (λ b. b) (take n row) ≡ many (flag row) n

@@ -9,18 +9,18 @@ use crate::rows::count;
 use crate::tables::Tables;
 use plan::records::CopyRecord;
 
-// Appends the copies of board p, which keeps the vertices of the row.
+// Appends the copies of board p, of the first n vertices, which it keeps where they are flagged.
 fn write_row(row: &[bool; 1024], p: u8, n: usize, out: &mut Filling<CopyRecord>)
     requires small { n ≤ 1024 }
     requires room { HasRoom out.old (row_copies row.now p n) }
     ensures { Appends out.old out.new (row_copies row.now p n) }
 {
-    for v in 0..n {
+    for (v, kept) in row[..n].iter().enumerate() {
         let copy = CopyRecord {
             board: p,
             vertex: v as u16,
         };
-        out.push_if(row[v], copy);
+        out.push_if(*kept, copy);
     }
 }
 
@@ -29,11 +29,10 @@ impl Tables {
     pub(crate) fn count_copies(&self) -> usize
         ensures { result ≡ length (all_copies self.now) }
     {
-        let mut copies = 0;
-        for p in 0..self.boards {
-            copies += count(&self.kept[p], self.vertices);
-        }
-        copies
+        self.kept[..self.boards]
+            .iter()
+            .map(|row| count(row, self.vertices))
+            .sum()
     }
 
     // Writes the copies of all boards.

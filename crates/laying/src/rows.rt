@@ -18,7 +18,8 @@ pub(crate) fn passing<F: Fn(usize) -> bool>(n: usize, test: F) -> [bool; 1024]
 // How many of the first n flags are set.
 pub(crate) fn count(row: &[bool; 1024], n: usize) -> usize
     requires { n ≤ 1024 }
-    ensures { result ≡ many (flag row.now) n }
+    ensures set { result ≡ many (flag row.now) n }
+    ensures few { result ≤ 1024 }
 {
     row[..n].iter().filter(|set| **set).count()
 }

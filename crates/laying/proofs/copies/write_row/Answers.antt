@@ -1,4 +1,8 @@
 -- One vertex more.
+use Rattle.std.proofs.Common.{◌<◌, Bool, false, sym, subst, arith}
+use Rattle.std.proofs.lemmas.List.{get_or-take, length-take-le}
+use Rattle.laying.specs.Filled.{HasRoom, Appends}
+use Rattle.laying.specs.Rows.{only}
 use Rattle.laying.specs.Tables.{copy_at}
 use Rattle.laying.proofs.Filled.{appends_none, appends_more, room_left}
 use Rattle.laying.proofs.copies.write_row.Goals as goal
@@ -8,26 +12,27 @@ loop-v-init c = appends_none c.args.out.now
 
 pub push_if-requires : goal.push_if-requires
 push_if-requires c =
-    room_left
-    (copy_at c.args.row.now c.args.p)
-    c.loop-v.v
-    c.args.n
-    c.args.out.now
-    c.loop-v.out
-    c.loop-v-test.true
-    c.requires.room
-    c.loop-v.invariant
+    let row = c.args.row.now in
+    let p = c.args.p in
+    let n = c.args.n in
+    let v = c.loop-v.v in
+    let out = c.loop-v.out in
+    let low : v < n = omega (arith, length-take-le n row (omega arith)) in
+    let P : Bool → Type 0 = λ b. HasRoom out (only b (record { board = p; vertex = v })) in
+    subst
+    P
+    (sym (get_or-take n row v false low))
+    (room_left (copy_at row p) v n c.args.out.now out low c.requires.room c.loop-v.invariant)
 
 pub loop-v-preserved : goal.loop-v-preserved
 loop-v-preserved c =
-    appends_more
-    (copy_at c.args.row.now c.args.p)
-    c.loop-v.v
-    c.args.n
-    c.args.out.now
-    c.loop-v.out
-    c.loop-v-test.true
-    c.requires.room
-    c.push_if.new.self
-    c.loop-v.invariant
-    c.push_if.ensures
+    let row = c.args.row.now in
+    let p = c.args.p in
+    let n = c.args.n in
+    let v = c.loop-v.v in
+    let out = c.loop-v.out in
+    let then = c.push_if.new.self in
+    let low : v < n = omega (arith, length-take-le n row (omega arith)) in
+    let P : Bool → Type 0 = λ b. Appends out then (only b (record { board = p; vertex = v })) in
+    let wrote = subst P (get_or-take n row v false low) c.push_if.ensures in
+    appends_more (copy_at row p) v n c.args.out.now out low c.requires.room then c.loop-v.invariant wrote

@@ -1,36 +1,31 @@
--- One board more.
-use Rattle.std.proofs.Common.{◌+◌, ◌≤◌, arith, rules}
-use Rattle.laying.specs.Rows.{flag}
-use Rattle.laying.specs.Tables.{row, board_copies}
-use Rattle.laying.proofs.Gather.{length_more, many_le}
-use Rattle.laying.proofs.Links.{row_size, copies_few}
+-- Row by row.
+use Rattle.std.proofs.Common.{◌≡◌, ◌≤◌, length, sum_by, take, ◌∙◌, arith, rules}
+use Rattle.std.proofs.lemmas.Iterator.{YieldsList-from_slice}
+use Rattle.std.proofs.lemmas.Iterator.Adapters.{fits_from_length, at_most_from_yields_List}
+use Rattle.std.proofs.lemmas.List.{length-take}
+use borrow.Author.Tests.{tests}
+use Rattle.std.proofs.iter.runs.Made.{chains}
+use Rattle.laying.specs.Rows.{flag, many}
+use Rattle.laying.proofs.Links.{rows_counted}
 use Rattle.laying.proofs.tables.Tables.count_copies.Goals as goal
 
-pub overflow_add-copies : goal.overflow_add-copies
-overflow_add-copies c =
+pub sum-requires-clause-fits : goal.sum-requires-clause-fits
+sum-requires-clause-fits c =
     let t = c.args.self.now in
-    let p = c.loop-p.p in
-    let few : c.loop-p.copies + c.count-copies.result ≤ 16384 =
-    omega (
-      arith,
-      c.loop-p.invariant,
-      copies_few t.kept t.vertices p t.small,
-      many_le (flag (row t.kept p)) t.vertices,
-      c.count-copies.ensures,
-      t.few,
-      t.small,
-    )
-    in
-    search rules
+    let few : length (take t.boards t.kept) ≤ 8 = omega (arith, length-take t.boards t.kept, t.few) in
+    fits_from_length
+    _
+    _
+    8
+    _
+    (at_most_from_yields_List (YieldsList-from_slice (take t.boards t.kept) cc) few)
+    c.map.ensures.closure
+    (omega arith)
+    (λ x r q k. search (rules, tests))
 
-pub loop-p-preserved : goal.loop-p-preserved
-loop-p-preserved c =
+pub returns : goal.returns
+returns c =
     let t = c.args.self.now in
-    let p = c.loop-p.p in
-    omega (
-      arith,
-      c.loop-p.invariant,
-      length_more (board_copies t.kept t.vertices) p,
-      row_size (row t.kept p) p t.vertices,
-      c.count-copies.ensures,
-    )
+    let n = t.vertices in
+    let found : c.sum.result ≡ sum_by (λ r. many (flag r) n) (take t.boards t.kept) = search (rules, chains) in
+    found ∙ rows_counted t.kept n t.boards

@@ -33,7 +33,7 @@ overflow_add-root c =
       c.loop-q.invariant.roots,
       copies_few t.kept t.vertices q t.small,
       many_le (flag (row t.kept q)) t.vertices,
-      c.count-root.ensures,
+      c.count-root.ensures.set,
       t.few,
       t.small,
     )
@@ -53,7 +53,7 @@ loop-q-preserved c =
             inv.roots,
             length_more (board_copies t.kept n) q,
             row_size (row t.kept q) q n,
-            c.count-root.ensures,
+            c.count-root.ensures.set,
           );
       written =
           appends_more

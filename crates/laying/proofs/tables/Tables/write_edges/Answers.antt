@@ -38,7 +38,7 @@ overflow_add-leaf c =
       c.loop-p.invariant.leaves,
       copies_few t.kept t.vertices p t.small,
       many_le (flag (row t.kept p)) t.vertices,
-      c.count-leaf.ensures,
+      c.count-leaf.ensures.set,
       t.few,
       t.small,
     )
@@ -61,7 +61,7 @@ loop-p-preserved c =
             c.loop-p.invariant.leaves,
             length_more (board_copies t.kept n) p,
             row_size (row t.kept p) p n,
-            c.count-leaf.ensures,
+            c.count-leaf.ensures.set,
           );
       written =
           appends_more
