@@ -3,7 +3,7 @@ use Rattle.std.proofs.Common.{◌≡◌, ℕ, zero, suc, ◌+◌, ◌*◌, ◌�
 use Rattle.std.proofs.Common.{sym, refl, ap, ◌∙◌, inl, inr, add-one, arith}
 use Rattle.laying.specs.Rows.{flag, many}
 use Rattle.laying.specs.Tables.{row, row_copies, board_copies, copies_in, ghost_in}
-use Rattle.laying.specs.Tables.{edge_if, edge_at, link_edges}
+use Rattle.laying.specs.Tables.{edge_if, edge_at, link_edges, link_in, board_edges}
 use Rattle.laying.proofs.Gather.{length_only, many_le}
 use Rattle.plan.specs.declared.records.CopyRecord.{CopyRecord}
 use Rattle.plan.specs.declared.records.Edge.{Edge}
@@ -51,6 +51,20 @@ module _ (mine theirs : List Bool) (owners : List (Option ℕ)) (p q : ℕ) wher
   edge_is leaf root v x y leaves roots =
       ap (λ z. edge_if mine owners p q v z y) leaves
       ∙ ap (λ z. edge_if mine owners p q v (leaf + many (flag mine) v) z) roots
+
+pub edges_few : (table : List (List Bool)) (owners : List (Option ℕ)) (n b p : ℕ) → n ≤ 1024
+    → length (board_edges table owners n b p) ≤ 1024 * b
+edges_few table owners n zero p h = omega arith
+edges_few table owners n (suc q) p h =
+    let leaf = length (copies_in table n p) in
+    let root = length (copies_in table n q) in
+    omega (
+      arith,
+      length-append (board_edges table owners n q p) (link_in table owners n p q),
+      edges_few table owners n q p h,
+      link_size (row table p) (row table q) owners p q leaf root n,
+      many_le (ghost_in (row table p) owners p q) n,
+    )
 
 none_set : (n : ℕ) → many (flag []) n ≡ 0
 none_set zero = refl

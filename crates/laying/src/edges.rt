@@ -59,6 +59,7 @@ impl Link<'_> {
     }
 
     // Appends the edges of the link. The boards' copies begin at the numbers `leaf` and `root`.
+    // Kept: by index, since each v is read in two rows and tested beside them; a zip of the rows still needs v.
     fn write(&self, mut leaf: usize, mut root: usize, out: &mut Filling<Edge>)
         requires leaves { leaf ≡ length (copies_below self.now.tables.now self.now.from) }
         requires roots { root ≡ length (copies_below self.now.tables.now self.now.to) }
@@ -78,33 +79,33 @@ impl Link<'_> {
 }
 
 impl Tables {
+    // The link from board p to board q.
+    // Kept: the bound of a board's number, here and in the two below; a type for such numbers would be no plainer.
+    fn link(&self, p: usize, q: usize) -> Link<'_>
+        requires { (p < 8) × (q < 8) }
+        ensures tables { result.tables.now ≡ self.now }
+        ensures boards { (result.from ≡ p) × (result.to ≡ q) }
+    {
+        Link {
+            tables: self,
+            from: p,
+            to: q,
+        }
+    }
+
     // How many edges go from board p.
     fn count_board(&self, p: usize) -> usize
         requires { p < 8 }
-        ensures count { result ≡ length (edges_from self.now p) }
-        ensures limit { result ≤ 8192 }
+        ensures { result ≡ length (edges_from self.now p) }
     {
-        let mut edges = 0;
-        for q in 0..self.boards {
-            let link = Link {
-                tables: self,
-                from: p,
-                to: q,
-            };
-            edges += link.count();
-        }
-        edges
+        (0..self.boards).map(|q| self.link(p, q).count()).sum()
     }
 
     // How many edges there are.
     pub(crate) fn count_edges(&self) -> usize
         ensures { result ≡ length (all_edges self.now) }
     {
-        let mut edges = 0;
-        for p in 0..self.boards {
-            edges += self.count_board(p);
-        }
-        edges
+        (0..self.boards).map(|p| self.count_board(p)).sum()
     }
 
     // Appends the edges from board p, whose copies begin at number `leaf`.
@@ -116,12 +117,7 @@ impl Tables {
     {
         let mut root = 0;
         for q in 0..self.boards {
-            let link = Link {
-                tables: self,
-                from: p,
-                to: q,
-            };
-            link.write(leaf, root, out);
+            self.link(p, q).write(leaf, root, out);
             root += count(&self.kept[q], self.vertices);
         }
     }

@@ -20,6 +20,7 @@ fn own_cells(scene: &SceneView, p: usize) -> [bool; 1024]
 }
 
 // Flags the corners of cell number c.
+// Kept: a `for` and no chain, since after `for_each` a proof knows nothing of what its closure wrote.
 fn mark_cell(scene: &SceneView, c: usize, touched: &mut [bool; 1024])
     ensures { Tells touched.new 1024
         (λ v. flag touched.old v || on v (cell_of scene.now c)) }
@@ -88,6 +89,7 @@ pub(crate) fn reach(scene: &SceneView, p: usize, m: usize) -> [bool; 1024]
 }
 
 // For each board, flags the vertices that it keeps.
+// Kept: written by index, since after `iter_mut` a proof knows only the length.
 pub(crate) fn keep_all(scene: &SceneView) -> [[bool; 1024]; 8]
     ensures { (p : ℕ) → p < (viewed scene.now).boards
         → Tells (row result p) 1024 (keeps (viewed scene.now) p) }

@@ -10,6 +10,7 @@ use crate::overlap::reach;
 use scene::view::SceneView;
 
 // Gives board p its vertices that no lower board has.
+// Kept: written by index, since after `iter_mut` a proof knows only the length.
 fn settle(owners: &mut [Option<u8>; 1024], mine: &[bool; 1024], p: u8, n: usize)
     requires { n ≤ 1024 }
     ensures { (v : ℕ) → v < n → slice_index_or owners.new v None

@@ -8,6 +8,7 @@ use crate::owners::owners;
 use scene::view::SceneView;
 
 // For each board the vertices that it keeps, and for each vertex the board that it belongs to.
+// Kept: arrays as long as a scene may be, since laying takes no heap and may not fail for memory.
 #[derive(Drop)]
 pub(crate) struct Tables {
     pub(crate) kept: [[bool; 1024]; 8],

@@ -4,6 +4,7 @@ ghost use Rattle.laying.specs.Faults.{lay_numbers};
 
 use super::LayFault;
 
+// Kept: a match for each, since the numbers are the programs' interface and no derive writes them.
 impl LayFault {
     // The number of the refusal.
     pub fn number(&self) -> u8

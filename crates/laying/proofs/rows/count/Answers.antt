@@ -1,5 +1,5 @@
 -- The flags set among the first n.
-use Rattle.std.proofs.Common.{◌≡◌, ◌≤◌, count_by, take, ◌∙◌, arith, rules}
+use Rattle.std.proofs.Common.{◌≡◌, count_by, take, ◌∙◌, arith, rules}
 use Rattle.std.proofs.iter.runs.Made.{chains}
 use Rattle.laying.specs.Rows.{flag, many}
 use Rattle.laying.proofs.Gather.{many_le}

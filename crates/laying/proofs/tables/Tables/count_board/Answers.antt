@@ -1,30 +1,57 @@
--- One root board more.
-use Rattle.std.proofs.Common.{◌+◌, ◌≤◌, length, arith, rules}
-use Rattle.laying.specs.Tables.{row, ghost_in, link_in, copies_in}
-use Rattle.laying.proofs.Gather.{length_more, many_le}
+-- Link by link.
+use Rattle.std.proofs.Common.{◌≤◌, length, sym, ap, ◌∙◌, arith, rules}
+use Rattle.std.specs.List.{range_with_len}
+use Rattle.std.proofs.lemmas.Iterator.{YieldsList-from_map, YieldsList-from_range}
+use Rattle.std.proofs.lemmas.Iterator.Adapters.{fits_from_length, at_most_from_yields_List}
+use Rattle.std.proofs.lemmas.Iterator.Consumers.{sum_by_from_yields_List}
+use Rattle.std.proofs.lemmas.List.Concat.{length-flat_map}
+use Rattle.std.proofs.lemmas.List.FromFn.{length-range_with_len}
+use borrow.Author.Tests.{tests}
+use Rattle.laying.specs.Said.{copies_below, edges_between, ghost_at}
+use Rattle.laying.specs.Tables.{row}
+use Rattle.laying.proofs.Counts.{joined_gathered}
+use Rattle.laying.proofs.Gather.{many_le}
 use Rattle.laying.proofs.Links.{link_size}
 use Rattle.laying.proofs.tables.Tables.count_board.Goals as goal
 
-pub overflow_add-edges : goal.overflow_add-edges
-overflow_add-edges c =
+pub sum-requires-clause-fits : goal.sum-requires-clause-fits
+sum-requires-clause-fits c =
     let t = c.args.self.now in
-    let ghosts = many_le (ghost_in (row t.kept c.args.p) t.owners c.args.p c.loop-q.q) t.vertices in
-    let few : c.loop-q.edges + c.count-edges.result ≤ 16384 =
-    omega (arith, c.loop-q.invariant.1, ghosts, c.count-edges.ensures, t.few, t.small)
-    in
-    search rules
+    let n = t.boards in
+    let few : length (range_with_len 0 n) ≤ 8 = omega (arith, length-range_with_len 0 n, t.few) in
+    fits_from_length
+    _
+    _
+    8
+    _
+    (at_most_from_yields_List (YieldsList-from_range 0 n n c.map.ensures.source (omega arith)) few)
+    c.map.ensures.closure
+    (omega arith)
+    (λ x r q k.
+    let few = many_le (ghost_at t c.args.p x) t.vertices in
+    search (rules, tests))
 
-pub loop-q-preserved : goal.loop-q-preserved
-loop-q-preserved c =
+pub returns : goal.returns
+returns c =
     let t = c.args.self.now in
-    let n = t.vertices in
-    let p = c.args.p in
-    let q = c.loop-q.q in
-    let mine = row t.kept p in
-    let ghosts = many_le (ghost_in mine t.owners p q) n in
-    let size =
-    link_size mine (row t.kept q) t.owners p q (length (copies_in t.kept n p)) (length (copies_in t.kept n q)) n
-    in (
-      omega (arith, c.loop-q.invariant.0, length_more (link_in t.kept t.owners n p) q, size, c.count-edges.ensures),
-      omega (arith, c.loop-q.invariant.1, ghosts, c.count-edges.ensures, t.small),
-    )
+    let n = t.boards in
+    let f = edges_between t c.args.p in
+    sum_by_from_yields_List
+    (λ k. length (f k))
+    (range_with_len 0 n)
+    c.map.result
+    _
+    c.sum.ensures.ran
+    (YieldsList-from_map
+    _
+    (λ k. length (f k))
+    (YieldsList-from_range 0 n n c.map.ensures.source (omega arith))
+    c.map.ensures.closure
+    (λ x r q k.
+    let mine = row t.kept c.args.p in
+    let leaf = length (copies_below t c.args.p) in
+    let root = length (copies_below t x) in
+    let size = link_size mine (row t.kept x) t.owners c.args.p x leaf root t.vertices in
+    search (rules, tests)))
+    ∙ sym (length-flat_map f (range_with_len 0 n))
+    ∙ ap length (joined_gathered f n)

@@ -1,20 +1,50 @@
--- One leaf board more.
-use Rattle.std.proofs.Common.{◌+◌, ◌≤◌, arith, rules}
-use Rattle.laying.specs.Tables.{board_edges}
-use Rattle.laying.proofs.Gather.{length_more}
+-- Board by board.
+use Rattle.std.proofs.Common.{◌≤◌, length, sym, ap, ◌∙◌, arith, rules}
+use Rattle.std.specs.List.{range_with_len}
+use Rattle.std.proofs.lemmas.Iterator.{YieldsList-from_map, YieldsList-from_range}
+use Rattle.std.proofs.lemmas.Iterator.Adapters.{fits_from_length, at_most_from_yields_List}
+use Rattle.std.proofs.lemmas.Iterator.Consumers.{sum_by_from_yields_List}
+use Rattle.std.proofs.lemmas.List.Concat.{length-flat_map}
+use Rattle.std.proofs.lemmas.List.FromFn.{length-range_with_len}
+use borrow.Author.Tests.{tests}
+use Rattle.laying.specs.Said.{edges_from}
+use Rattle.laying.proofs.Counts.{joined_gathered}
+use Rattle.laying.proofs.Links.{edges_few}
 use Rattle.laying.proofs.tables.Tables.count_edges.Goals as goal
 
-pub overflow_add-edges : goal.overflow_add-edges
-overflow_add-edges c =
-    let few : c.loop-p.edges + c.count_board-edges.result ≤ 131072 =
-    omega (arith, c.loop-p.invariant.1, c.count_board-edges.ensures.limit, c.args.self.now.few)
-    in
-    search rules
-
-pub loop-p-preserved : goal.loop-p-preserved
-loop-p-preserved c =
+pub sum-requires-clause-fits : goal.sum-requires-clause-fits
+sum-requires-clause-fits c =
     let t = c.args.self.now in
-    let f = board_edges t.kept t.owners t.vertices t.boards in (
-      omega (arith, c.loop-p.invariant.0, length_more f c.loop-p.p, c.count_board-edges.ensures.count),
-      omega (arith, c.loop-p.invariant.1, c.count_board-edges.ensures.limit),
-    )
+    let n = t.boards in
+    let few : length (range_with_len 0 n) ≤ 8 = omega (arith, length-range_with_len 0 n, t.few) in
+    fits_from_length
+    _
+    _
+    8
+    _
+    (at_most_from_yields_List (YieldsList-from_range 0 n n c.map.ensures.source (omega arith)) few)
+    c.map.ensures.closure
+    (omega arith)
+    (λ x r q k.
+    let few = edges_few t.kept t.owners t.vertices t.boards x t.small in
+    search (rules, tests))
+
+pub returns : goal.returns
+returns c =
+    let t = c.args.self.now in
+    let n = t.boards in
+    let f = edges_from t in
+    sum_by_from_yields_List
+    (λ k. length (f k))
+    (range_with_len 0 n)
+    c.map.result
+    _
+    c.sum.ensures.ran
+    (YieldsList-from_map
+    _
+    (λ k. length (f k))
+    (YieldsList-from_range 0 n n c.map.ensures.source (omega arith))
+    c.map.ensures.closure
+    (λ x r q k. search (rules, tests)))
+    ∙ sym (length-flat_map f (range_with_len 0 n))
+    ∙ ap length (joined_gathered f n)

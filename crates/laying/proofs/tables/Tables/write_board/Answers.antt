@@ -14,13 +14,16 @@ pub write-requires : goal.write-requires
 write-requires c =
     let t = c.args.self.now in
     let inv = c.loop-q.invariant in
+    let link = c.link.ensures in
     let links = link_in t.kept t.owners t.vertices c.args.p in
     record {
-      leaves = c.requires.begins;
-      roots = inv.roots;
+      leaves = rw (link.tables, link.boards.0) c.requires.begins;
+      roots = rw (link.tables, link.boards.1) inv.roots;
       room =
+          rw (link.tables, link.boards.0, link.boards.1) (
           room_left links c.loop-q.q t.boards c.args.out.now c.loop-q.out c.loop-q-test.true
-          c.requires.room inv.written;
+          c.requires.room inv.written
+          );
     }
 
 pub overflow_add-root : goal.overflow_add-root
@@ -46,6 +49,7 @@ loop-q-preserved c =
     let n = t.vertices in
     let q = c.loop-q.q in
     let inv = c.loop-q.invariant in
+    let link = c.link.ensures in
     record {
       roots =
           omega (
@@ -66,5 +70,5 @@ loop-q-preserved c =
           c.requires.room
           c.write.new.out
           inv.written
-          c.write.ensures;
+          (rw (link.tables, link.boards.0, link.boards.1) at c.write.ensures);
     }
