@@ -1,5 +1,6 @@
 -- Some element passes: of a list, and of the numbers below n.
-use Rattle.std.proofs.Common.{◌≡◌, ℕ, zero, suc, ◌+◌, ◌<◌, ◌≤◌, Bool, true, false, ◌&&◌, ◌||◌, List, [], ◌∷◌, length, get_or}
+use Rattle.std.proofs.Common.{◌≡◌, ℕ, zero, suc, ◌+◌, ◌<◌, ◌≤◌, Bool, true, false, ◌&&◌, ◌||◌, List, [], ◌∷◌, length}
+use Rattle.std.proofs.Common.{get_or}
 use Rattle.std.proofs.Common.{sym, refl, ap, ◌∙◌, zero-add, add-zero, arith}
 use Rattle.std.specs.List.{AllByRecursion, slice_get, list_any, range_with_len}
 use Rattle.forest.specs.Forest.{any}

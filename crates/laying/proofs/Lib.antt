@@ -6,4 +6,5 @@ mod Gather
 mod Layers
 mod Links
 mod Lowest
+mod Stands
 mod Tied

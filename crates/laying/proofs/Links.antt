@@ -1,5 +1,6 @@
 -- How many copies and edges the tables say, and the edges as they are written.
-use Rattle.std.proofs.Common.{◌≡◌, ℕ, zero, suc, ◌+◌, ◌*◌, ◌≤◌, Bool, false, List, [], length, count_by, sum_by, get_or, take, Option}
+use Rattle.std.proofs.Common.{◌≡◌, ℕ, zero, suc, ◌+◌, ◌*◌, ◌≤◌, Bool, false, List, [], length, count_by, sum_by}
+use Rattle.std.proofs.Common.{get_or, take, Option}
 use Rattle.std.proofs.Common.{sym, refl, ap, ◌∙◌, inl, inr, add-one, arith}
 use Rattle.laying.specs.Rows.{flag, many}
 use Rattle.laying.specs.Tables.{row, row_copies, board_copies, copies_in, ghost_in}

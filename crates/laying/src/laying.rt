@@ -21,6 +21,7 @@ pub struct LaidCounts {
 // Writes the scene's copies and edges at the start of the memory handed in, and nothing past them.
 // They are a star forest, and a plan view takes them.
 // Nothing is written before both memories are known to be long enough.
+#[tactic(auto, using(crate::proofs::Stands::view_forest, crate::proofs::Stands::view_plan))]
 pub fn lay(
     scene: &SceneView,
     copies: &mut [CopyRecord],

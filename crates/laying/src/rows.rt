@@ -3,8 +3,8 @@ ghost use Rattle.std.specs.Prelude.{◌≡◌, ℕ, ◌<◌, ◌≤◌};
 ghost use Rattle.laying.specs.Rows.{flag, many};
 
 // Flags the numbers below n that pass the test.
-// Kept: written by index, since after `iter_mut` a proof knows only the length. `array::from_fn` tests all 1,024 numbers,
-// and its clause is a record for each, in which the search for a caller's proof ends at its limits.
+// Kept: written by index, since after `iter_mut` a proof knows only the length. `array::from_fn` was tried: its clause
+// is a record for each of 1,024 numbers, in which the search for a caller's proof ends at its limits.
 pub(crate) fn passing<F: Fn(usize) -> bool>(n: usize, test: F) -> [bool; 1024]
     requires few { n ≤ 1024 }
     requires callable { F.IsAlwaysCallable test }

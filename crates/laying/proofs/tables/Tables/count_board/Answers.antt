@@ -1,15 +1,14 @@
 -- Link by link.
-use Rattle.std.proofs.Common.{◌≤◌, length, sym, ap, ◌∙◌, arith, rules}
+use Rattle.std.proofs.Common.{◌≤◌, length, ◌∙◌, arith, rules}
 use Rattle.std.specs.List.{range_with_len}
 use Rattle.std.proofs.lemmas.Iterator.{YieldsList-from_map, YieldsList-from_range}
 use Rattle.std.proofs.lemmas.Iterator.Adapters.{fits_from_length, at_most_from_yields_List}
 use Rattle.std.proofs.lemmas.Iterator.Consumers.{sum_by_from_yields_List}
-use Rattle.std.proofs.lemmas.List.Concat.{length-flat_map}
 use Rattle.std.proofs.lemmas.List.FromFn.{length-range_with_len}
 use borrow.Author.Tests.{tests}
 use Rattle.laying.specs.Said.{copies_below, edges_between, ghost_at}
 use Rattle.laying.specs.Tables.{row}
-use Rattle.laying.proofs.Counts.{joined_gathered}
+use Rattle.laying.proofs.Counts.{lengths_summed}
 use Rattle.laying.proofs.Gather.{many_le}
 use Rattle.laying.proofs.Links.{link_size}
 use Rattle.laying.proofs.tables.Tables.count_board.Goals as goal
@@ -53,5 +52,4 @@ returns c =
     let root = length (copies_below t x) in
     let size = link_size mine (row t.kept x) t.owners c.args.p x leaf root t.vertices in
     search (rules, tests)))
-    ∙ sym (length-flat_map f (range_with_len 0 n))
-    ∙ ap length (joined_gathered f n)
+    ∙ lengths_summed f n

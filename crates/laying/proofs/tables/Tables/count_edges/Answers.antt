@@ -1,14 +1,13 @@
 -- Board by board.
-use Rattle.std.proofs.Common.{◌≤◌, length, sym, ap, ◌∙◌, arith, rules}
+use Rattle.std.proofs.Common.{◌≤◌, length, ◌∙◌, arith, rules}
 use Rattle.std.specs.List.{range_with_len}
 use Rattle.std.proofs.lemmas.Iterator.{YieldsList-from_map, YieldsList-from_range}
 use Rattle.std.proofs.lemmas.Iterator.Adapters.{fits_from_length, at_most_from_yields_List}
 use Rattle.std.proofs.lemmas.Iterator.Consumers.{sum_by_from_yields_List}
-use Rattle.std.proofs.lemmas.List.Concat.{length-flat_map}
 use Rattle.std.proofs.lemmas.List.FromFn.{length-range_with_len}
 use borrow.Author.Tests.{tests}
 use Rattle.laying.specs.Said.{edges_from}
-use Rattle.laying.proofs.Counts.{joined_gathered}
+use Rattle.laying.proofs.Counts.{lengths_summed}
 use Rattle.laying.proofs.Links.{edges_few}
 use Rattle.laying.proofs.tables.Tables.count_edges.Goals as goal
 
@@ -46,5 +45,4 @@ returns c =
     (YieldsList-from_range 0 n n c.map.ensures.source (omega arith))
     c.map.ensures.closure
     (λ x r q k. search (rules, tests)))
-    ∙ sym (length-flat_map f (range_with_len 0 n))
-    ∙ ap length (joined_gathered f n)
+    ∙ lengths_summed f n

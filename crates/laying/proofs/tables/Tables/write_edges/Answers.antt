@@ -83,9 +83,10 @@ returns c =
     let start = c.new-out.result in
     let out = c.loop-p.out in
     let all : c.loop-p.p ≡ t.boards = omega arith in
-    let appended = subst (λ p. Appends start out (edges_in t.kept t.owners t.vertices t.boards p)) all c.loop-p.invariant.written in
+    let edges = edges_in t.kept t.owners t.vertices t.boards in
+    let appended = subst (λ p. Appends start out (edges p)) all c.loop-p.invariant.written in
     let same = appended.same ∙ c.new-out.ensures.same in
-    let laid = edges_in t.kept t.owners t.vertices t.boards t.boards in
+    let laid = edges t.boards in
     let written : out.out.now ≡ laid ++ drop (length laid) c.args.edges.now =
     filled start out c.args.edges.now laid c.new-out.ensures.none c.new-out.ensures.kept appended
     in
