@@ -4,11 +4,8 @@ use Rattle.std.proofs.lemmas.List.{get_or-take, length-take-le}
 use Rattle.laying.specs.Filled.{HasRoom, Appends}
 use Rattle.laying.specs.Rows.{only}
 use Rattle.laying.specs.Tables.{copy_at}
-use Rattle.laying.proofs.Filled.{appends_none, appends_more, room_left}
+use Rattle.laying.proofs.Filled.{appends_more, room_left}
 use Rattle.laying.proofs.copies.write_row.Goals as goal
-
-pub loop-v-init : goal.loop-v-init
-loop-v-init c = appends_none c.args.out.now
 
 pub push_if-requires : goal.push_if-requires
 push_if-requires c =

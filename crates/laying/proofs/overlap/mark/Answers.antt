@@ -3,6 +3,7 @@ use Rattle.std.proofs.Common.{◌≡◌, ℕ, Bool, false, ◌&&◌, ◌||◌, l
 use Rattle.std.proofs.lemmas.List.{get_or-replicate}
 use Rattle.forest.specs.Forest.{on}
 use Rattle.scene.proofs.Viewing.{view_sound}
+use Rattle.scene.specs.Views.{viewed}
 use Rattle.laying.specs.Rows.{flag, some}
 use Rattle.laying.specs.Seen.{cell_of}
 use Rattle.laying.proofs.Anys.{or_false}
@@ -45,3 +46,10 @@ loop-c-preserved c =
             ∙ sym (some_more t i),
       )
     ]
+
+pub returns : goal.returns
+returns c =
+    let s = c.args.scene.now in
+    let all : c.loop-c.c ≡ length (viewed s).cells = omega (arith, c.cells-c-end.ensures) in
+    λ v h.
+    c.loop-c.invariant.1 v h ∙ ap (some (λ k. flag c.args.inside.now k && on v (cell_of s k))) all

@@ -1,19 +1,16 @@
 -- One corner more, and all corners.
-use Rattle.std.proofs.Common.{◌≡◌, ℕ, ◌<◌, Bool, true, false, ◌||◌, eqb, Some, None, length, sym, refl, ap, ◌∙◌}
+use Rattle.std.proofs.Common.{◌≡◌, ℕ, ◌<◌, Bool, true, ◌||◌, eqb, Some, None, length, sym, ap, ◌∙◌}
 use Rattle.std.proofs.Common.{arith}
 use Rattle.std.proofs.lemmas.List.{length-set}
 use Rattle.scene.specs.Read.{corner_of}
 use Rattle.scene.specs.Views.{viewed}
 use Rattle.laying.specs.Rows.{flag, passes, some}
-use Rattle.laying.proofs.Anys.{or_false, or_none}
+use Rattle.laying.proofs.Anys.{or_false}
 use Rattle.laying.proofs.Corners.{corner_low, some_corner}
 use Rattle.laying.proofs.Gather.{some_more}
 use Rattle.laying.proofs.Layers.{marked_more}
 use Rattle.laying.proofs.overlap.mark_cell.Goals.{in-Some, in_default}
 use Rattle.laying.proofs.overlap.mark_cell.Goals as goal
-
-pub loop-k-init : goal.loop-k-init
-loop-k-init c = (c.told-touched, λ v h. or_none (flag c.args.touched.now v) false false refl)
 
 pub bounds-touched-v : goal.bounds-touched-v
 bounds-touched-v c =

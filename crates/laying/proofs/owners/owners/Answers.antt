@@ -1,5 +1,5 @@
 -- One board more.
-use Rattle.std.proofs.Common.{ℕ, Bool, None, sym, refl, ap, ◌∙◌, arith, rules}
+use Rattle.std.proofs.Common.{◌≡◌, ℕ, Bool, None, sym, refl, ap, ◌∙◌, arith, rules}
 use Rattle.std.specs.Bool.{then_some}
 use Rattle.std.specs.Option.{option_or}
 use Rattle.std.proofs.lemmas.List.{get_or-replicate}
@@ -29,3 +29,10 @@ loop-p-preserved c =
           ∙ ap (λ b. option_or (lowest_below t p) (then_some b p)) (c.reach-mine.ensures x (omega arith))
           ∙ sym (lowest_more t p),
     )
+
+pub returns : goal.returns
+returns c =
+    let s = viewed c.args.scene.now in
+    let all : c.loop-p.p ≡ s.boards = omega (arith, c.boards-p-end.ensures) in
+    λ v h.
+    c.loop-p.invariant.1 v h ∙ ap (lowest_below (λ q. owns_cell_on s q v)) all

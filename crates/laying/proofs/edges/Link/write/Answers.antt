@@ -3,18 +3,10 @@ use Rattle.std.proofs.Common.{◌+◌, ◌≤◌, length, sym, subst, arith, rul
 use Rattle.laying.specs.Filled.{HasRoom, Appends}
 use Rattle.laying.specs.Rows.{flag}
 use Rattle.laying.specs.Tables.{row, copies_in, edge_at}
-use Rattle.laying.proofs.Filled.{appends_none, appends_more, room_left}
+use Rattle.laying.proofs.Filled.{appends_more, room_left}
 use Rattle.laying.proofs.Gather.{many_more, many_le, byte_le}
 use Rattle.laying.proofs.Links.{copies_few, edge_is}
 use Rattle.laying.proofs.edges.Link.write.Goals as goal
-
-pub loop-v-init : goal.loop-v-init
-loop-v-init c =
-    record {
-      leaves = omega (arith, c.requires.leaves);
-      roots = omega (arith, c.requires.roots);
-      written = appends_none c.args.out.now;
-    }
 
 pub write_edge-requires : goal.write_edge-requires
 write_edge-requires c =

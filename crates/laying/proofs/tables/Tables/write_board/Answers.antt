@@ -1,14 +1,11 @@
 -- One root board more.
-use Rattle.std.proofs.Common.{◌+◌, ◌≤◌, refl, arith, rules}
+use Rattle.std.proofs.Common.{◌+◌, ◌≤◌, arith, rules}
 use Rattle.laying.specs.Rows.{flag}
 use Rattle.laying.specs.Tables.{row, link_in, board_copies}
-use Rattle.laying.proofs.Filled.{appends_none, appends_more, room_left}
+use Rattle.laying.proofs.Filled.{appends_more, room_left}
 use Rattle.laying.proofs.Gather.{length_more, many_le}
 use Rattle.laying.proofs.Links.{row_size, copies_few}
 use Rattle.laying.proofs.tables.Tables.write_board.Goals as goal
-
-pub loop-q-init : goal.loop-q-init
-loop-q-init c = record { roots = refl; written = appends_none c.args.out.now }
 
 pub write-requires : goal.write-requires
 write-requires c =

@@ -2,11 +2,8 @@
 use Rattle.std.proofs.Common.{◌≡◌, ◌++◌, length, drop, subst, ap, ◌∙◌, arith, rules}
 use Rattle.laying.specs.Filled.{HasRoom, Appends}
 use Rattle.laying.specs.Tables.{board_copies, copies_in}
-use Rattle.laying.proofs.Filled.{appends_none, appends_more, room_left, filled}
+use Rattle.laying.proofs.Filled.{appends_more, room_left, filled}
 use Rattle.laying.proofs.tables.Tables.write_copies.Goals as goal
-
-pub loop-p-init : goal.loop-p-init
-loop-p-init c = appends_none c.new-out.result
 
 pub write_row-requires-clause-room : goal.write_row-requires-clause-room
 write_row-requires-clause-room c =

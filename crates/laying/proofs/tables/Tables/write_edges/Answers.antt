@@ -1,15 +1,12 @@
 -- One leaf board more.
-use Rattle.std.proofs.Common.{◌≡◌, ◌+◌, ◌≤◌, ◌++◌, length, drop, refl, subst, ap, ◌∙◌, arith, rules}
+use Rattle.std.proofs.Common.{◌≡◌, ◌+◌, ◌≤◌, ◌++◌, length, drop, subst, ap, ◌∙◌, arith, rules}
 use Rattle.laying.specs.Filled.{HasRoom, Appends}
 use Rattle.laying.specs.Rows.{flag}
 use Rattle.laying.specs.Tables.{row, board_edges, board_copies, edges_in}
-use Rattle.laying.proofs.Filled.{appends_none, appends_more, room_left, filled}
+use Rattle.laying.proofs.Filled.{appends_more, room_left, filled}
 use Rattle.laying.proofs.Gather.{length_more, many_le}
 use Rattle.laying.proofs.Links.{row_size, copies_few}
 use Rattle.laying.proofs.tables.Tables.write_edges.Goals as goal
-
-pub loop-p-init : goal.loop-p-init
-loop-p-init c = record { leaves = refl; written = appends_none c.new-out.result }
 
 pub write_board-requires-clause-room : goal.write_board-requires-clause-room
 write_board-requires-clause-room c =
