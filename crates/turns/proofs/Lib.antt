@@ -1,1 +1,4 @@
+pub mod Gathered
+pub mod Putting
+pub mod Taking
 pub mod Turns

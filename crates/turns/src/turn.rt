@@ -51,9 +51,8 @@ pub fn take_turn<E: Element, D: Medium>(
     ] }
 {
     check_turn(plan, copies.len(), board)?;
-    let mut got = [false; 8];
-    let haul = receive(plan, table, medium, copies, board, &mut got);
-    let puts = send(plan, table, medium, copies, board, &got);
+    let haul = receive(plan, table, medium, copies, board);
+    let puts = send(plan, table, medium, copies, board, &haul.got);
     Ok(TurnCounts {
         taken: haul.taken,
         accepted: haul.accepted,

@@ -1,20 +1,25 @@
--- What is left of the lane gives, from here, what the whole lane gives from the start.
-use Rattle.std.proofs.Common.{◌≡◌, ◌+◌, ◌≤◌, ◌||◌, length, drop}
+-- What is left in the lane gives, from here, what the whole lane gives from the start.
+use Rattle.std.proofs.Common.{◌≡◌, ◌+◌, ◌≤◌, ◌||◌, length}
 use Rattle.protocol.specs.Frames.{some_item}
-use Rattle.protocol.specs.Steps.{held, frames_step}
-use Rattle.protocol.proofs.Lanes.{without}
+use Rattle.protocol.specs.Steps.{emptied, held, frames_step}
 use Rattle.turns.proofs.receive.take_lane.Given as goal
 
-abbrev pub invariant-loop-k : goal.invariant-loop-k
-invariant-loop-k g l =
+abbrev pub invariant-loop-frame : goal.invariant-loop-frame
+invariant-loop-frame g l =
+    let q = l.link.from in
+    let p = l.link.to in
     let was = g.D.Medium.lanes l.initial.medium in
-    let lane = was l.q l.p in
-    let steps = frames_step g.E.Element.algebra l.ups l.downs l.p l.q in
+    let now = g.D.Medium.lanes l.medium in
+    let steps = frames_step g.E.Element.algebra l.link.ups.now l.link.downs.now p q in
     record {
-      all : l.frames ≡ length lane;
-      lanes_so : g.D.Medium.lanes l.medium ≡ without was l.q l.p l.k;
-      held_so : steps (drop l.k lane) (held l.table.links l.copies l.came.accepted)
-          ≡ steps lane (held l.initial.table.links l.initial.copies l.accepted);
-      item_so : (l.came.item || some_item (drop l.k lane)) ≡ some_item lane;
-      few : (l.came.accepted ≤ l.accepted + l.k) × (l.frames ≤ 64);
+      held_so : steps (now q p) (held l.table.links l.copies l.haul.accepted)
+          ≡ steps (was q p) (held l.initial.table.links l.initial.copies l.initial.haul.accepted);
+      lanes_so : emptied q p now ≡ emptied q p was;
+      item_so : (l.item || some_item (now q p)) ≡ some_item (was q p);
+      taken_so : l.haul.taken + length (now q p) ≡ l.initial.haul.taken + length (was q p);
+      got_so : l.haul.got ≡ l.initial.haul.got;
+      short : length (was q p) ≤ 64;
     }
+
+abbrev pub decreases-loop-frame : goal.decreases-loop-frame
+decreases-loop-frame g l = length (g.D.Medium.lanes l.medium l.link.from l.link.to)

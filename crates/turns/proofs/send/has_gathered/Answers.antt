@@ -1,13 +1,18 @@
--- One board more.
-use Rattle.std.proofs.Common.{◌&&◌, leb, length, sym, ap, ◌∙◌, ap₂, add-one}
+-- The test of each board's number is one of all boards but p.
+use Rattle.std.proofs.Common.{◌||◌, length, eqb, leb, ◌∙◌, rules, tests, arith}
+use Rattle.std.proofs.lemmas.Iterator.{YieldsList-from_range}
+use Rattle.std.proofs.lemmas.Iterator.Search.{all_from_yields_List}
 use Rattle.plan.specs.Links.{edges_between}
 use Rattle.protocol.specs.Runs.{accepted_in}
-use Rattle.protocol.specs.Turns.{others}
+use Rattle.turns.proofs.Gathered.{others_from_all}
 use Rattle.turns.proofs.send.has_gathered.Goals as goal
 
-pub loop-q-preserved : goal.loop-q-preserved
-loop-q-preserved c =
+pub returns : goal.returns
+returns c =
     let p = c.args.p in
-    ap₂ ◌&&◌ c.loop-q.invariant c.heard_all-all.ensures
-    ∙ ap (λ k. others p k (λ q. leb (length (edges_between c.args.plan.now.edges.now q p))
-    (accepted_in c.args.table.now.links q p))) (sym (add-one c.loop-q.q))
+    let plan = c.args.plan.now in
+    all_from_yields_List (λ q. eqb q p || leb (length (edges_between plan.edges.now q p))
+    (accepted_in c.args.table.now.links q p))
+    _ _ c.all.result c.all.ensures.ran (YieldsList-from_range 0 plan.boards plan.boards (cc) (omega arith))
+    (λ x b q k. search (rules, tests))
+    ∙ others_from_all p _ plan.boards

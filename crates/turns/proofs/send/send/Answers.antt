@@ -1,44 +1,38 @@
 -- One board more.
-use Rattle.std.proofs.Common.{◌≡◌, ◌≤◌, Bool, false, ◌||◌, get_or, ap, subst, inl, inr, arith}
-use mir.Val.{bool_byte}
-use Rattle.std.proofs.lemmas.Bool.{cases_eq}
-use Rattle.plan.specs.Links.{edges_between}
-use Rattle.protocol.specs.Runs.{link_at}
-use Rattle.protocol.specs.Steps.{Spoken, due, due_frame, item_due, frame_due}
+use Rattle.std.proofs.Common.{eqb, arith}
+use Rattle.protocol.specs.Steps.{due, due_frame}
 use Rattle.protocol.proofs.Lanes.{byte_at_most_one}
-use Rattle.protocol.proofs.Sending.{sent_next, lost_was_made}
+use Rattle.turns.proofs.Putting.{one_put, no_put}
 use Rattle.turns.proofs.send.send.Goals as goal
+use Rattle.turns.proofs.send.send.Goals.{in-Some, in_default}
 
 pub loop-q-preserved : goal.loop-q-preserved
 loop-q-preserved g c =
     let A = g.E.Element.algebra in
-    let boards = c.args.plan.now.boards in
-    let edges = c.args.plan.now.edges.now in
+    let plan = c.args.plan.now in
+    let links = c.args.table.now.links in
     let p = c.args.p in
     let q = c.loop-q.q in
-    let links = c.args.table.now.links in
-    let copies = c.args.copies.now in
-    let ups = edges_between edges p q in
-    let downs = edges_between edges q p in
     let lanes = g.D.Medium.lanes in
-    let m = c.speak_to-spoke.result.made in
-    let l = c.speak_to-spoke.result.lost in
-    let spoken : (q ≡ p → ⊥) → Spoken p q (due A boards edges p links c.args.got.now q)
-    (due_frame A boards edges p links copies q) (lanes c.loop-q.medium) (lanes c.speak_to-spoke.new.medium)
-    m l
-    = λ d. subst (λ (b : Bool). Spoken p q (item_due ups downs (link_at links p q).i b || get_or c.args.got.now q
-    false)
-    (frame_due A ups downs (link_at links p q).i (link_at links q p).j b copies)
-    (lanes c.loop-q.medium) (lanes c.speak_to-spoke.new.medium) m l)
-    c.has_gathered-gathered.ensures (c.speak_to-spoke.ensures.other d) in
-    let few : bool_byte l ≤ bool_byte m = elim (cases_eq q p) [
-      | inl e ↦ let (a, b, d) = c.speak_to-spoke.ensures.itself e in omega (arith, ap bool_byte a, ap bool_byte b)
-      | inr d ↦ lost_was_made m l _ _ (spoken d).made_is (spoken d).lost_is
-    ] in
-    rw (c.from-made.ensures, c.from-lost.ensures) record {
-      so_far = sent_next p (due A boards edges p links c.args.got.now) (due_frame A boards edges p links copies)
-          (lanes c.args.medium.now) q (lanes c.loop-q.medium) c.loop-q.made c.loop-q.lost
-          c.loop-q.invariant.so_far (lanes c.speak_to-spoke.new.medium) m l c.speak_to-spoke.ensures.itself
-          spoken;
-      few = (omega (arith, few), omega (arith, byte_at_most_one m));
-    }
+    let v = c.loop-q.invariant in
+    let l = c.of-link.ensures in
+    let owed = due A plan.boards plan.edges.now p links c.args.got.now in
+    let frame = due_frame A plan.boards plan.edges.now p links c.args.copies.now in
+    elim c.match-speak.branch [
+      | in-Some w ↦
+          let (is, after) =
+          rw (l.ends.0, l.ends.1, l.ups, l.downs, c.has_gathered-gathered.ensures) at w.in-Some.ensures in
+          rw (w.made-is, w.lost-is, w.from-lost.ensures) record {
+            so_far = one_put p owed frame (lanes c.args.medium.now) q (lanes c.loop-q.medium) c.loop-q.made
+                c.loop-q.lost v.so_far c.if-q-p.false (lanes c.speak.new.medium) w.in-Some.left is after;
+            few = (omega (arith, byte_at_most_one (eqb w.in-Some.left 0)), omega arith);
+          }
+      | in_default w ↦
+          let (is, after) =
+          rw (l.ends.0, l.ends.1, l.ups, l.downs, c.has_gathered-gathered.ensures) at w.in_default.ensures in
+          rw (w.made-is, w.lost-is) record {
+            so_far = no_put p owed frame (lanes c.args.medium.now) q (lanes c.loop-q.medium) c.loop-q.made
+                c.loop-q.lost v.so_far c.if-q-p.false (lanes c.speak.new.medium) is after;
+            few = (omega arith, omega arith);
+          }
+    ]

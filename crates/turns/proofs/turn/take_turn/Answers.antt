@@ -1,5 +1,5 @@
 -- A turn that is taken is one by the rules.
-use Rattle.std.proofs.Common.{false, replicate, refl}
+use Rattle.std.proofs.Common.{false, replicate, refl, arith}
 use Rattle.turns.proofs.Turns.{turn_by_the_rules}
 use Rattle.turns.proofs.turn.take_turn.Goals as goal
 
@@ -13,12 +13,12 @@ returns g c =
     let (exact, alone) = turn_by_the_rules A plan.boards plan.copies.now plan.edges.now plan.sound
     c.args.board c.args.table.now.links c.receive-haul.new.table.links c.args.copies.now
     c.receive-haul.new.copies (lanes c.args.medium.now) (lanes c.receive-haul.new.medium)
-    (lanes c.send-puts.new.medium) (replicate 8 false) c.receive-haul.new.got haul.taken
+    (lanes c.send-puts.new.medium) (replicate 8 false) haul.got haul.taken
     haul.accepted puts.made puts.lost c.in_ok-check_turn.ensures
     c.args.table.now.full refl c.receive-haul.ensures.after c.send-puts.ensures.after in
     record {
       exact = exact;
       alone = alone;
       still = tt;
-      few = (c.send-puts.ensures.few.0, c.send-puts.ensures.few.1, c.receive-haul.ensures.few.1);
+      few = (omega arith, omega arith, omega arith);
     }
