@@ -2,12 +2,14 @@
 ghost use Rattle.std.specs.Prelude.{◌≡◌, ◌+◌, ◌*◌, ◌<◌, ◌≤◌, length};
 ghost use Rattle.plan.specs.Links.{edges_between};
 ghost use Rattle.protocol.specs.Frames.{odd};
+ghost use Rattle.protocol.specs.Runs.{link_at};
 ghost use Rattle.protocol.specs.Steps.{Fit, accepted_copies, item_due, item_value};
 
 use element::element::Element;
 use element::words::Words;
 use plan::records::Edge;
 use plan::view::PlanView;
+use protocol::table::{Link, LinkTable};
 
 // A count's bit.
 pub(crate) fn bit_of(count: usize) -> bool
@@ -59,6 +61,18 @@ impl<'a> LinkView<'a> {
         ensures within { result < 64 }
     {
         8 * self.to + self.from
+    }
+
+    pub(crate) fn counts(&self, table: &LinkTable) -> Link
+        ensures { result ≡ link_at table.now.links self.now.from self.now.to }
+    {
+        table.links[self.place()]
+    }
+
+    pub(crate) fn counts_back(&self, table: &LinkTable) -> Link
+        ensures { result ≡ link_at table.now.links self.now.to self.now.from }
+    {
+        table.links[self.place_back()]
     }
 
     // How many items the link carries.

@@ -2,7 +2,7 @@
 ghost use Rattle.std.specs.Prelude.{◌≡◌, ◌<◌, ◌≤◌, ◌||◌, true, false, length, cond, nat_le, Some, None};
 ghost use Rattle.medium.specs.Lanes.{appended};
 ghost use Rattle.plan.specs.Links.{edges_between};
-ghost use Rattle.protocol.specs.Runs.{accepted_in, link_at};
+ghost use Rattle.protocol.specs.Runs.{accepted_in};
 ghost use Rattle.protocol.specs.Turns.{others};
 ghost use Rattle.protocol.specs.Steps.{Sent, due, due_frame, item_due, frame_due};
 
@@ -13,82 +13,74 @@ use medium::medium::Medium;
 use plan::view::PlanView;
 use protocol::table::LinkTable;
 
-// The item that is due over the link, if any: the first that is not known to have arrived.
-fn next_item<E: Element>(
-    link: &LinkView,
-    table: &LinkTable,
-    copies: &[E],
+// A board that has received, at one of its links: what decides its next frame there.
+#[derive(Drop)]
+struct Sender<'a, E> {
+    link: LinkView<'a>,
+    // how many items are known to have arrived over the link, and how many of the link back were accepted
+    arrived: usize,
+    accepted: usize,
+    // all that rises to this board was accepted
     gathered: bool,
-) -> Option<Item>
-    requires room { link.now.copies ≤ length copies.now }
-    ensures { result ≡ (frame_due E.Element.algebra link.now.ups.now link.now.downs.now
-        (link_at table.now.links link.now.from link.now.to).i
-        (link_at table.now.links link.now.to link.now.from).j gathered copies.now).item }
-{
-    let i = table.links[link.place()].i;
-    if !link.wants(i, gathered) {
-        return None;
-    }
-    Some(Item {
-        bit: bit_of(i),
-        words: link.item_value(copies, i).pack(),
-    })
+    // an item came over the link back
+    got: bool,
+    copies: &'a [E],
+    ghost room: { link.copies ≤ length copies.now },
 }
 
-// The frame that is due over the link, if any: an item, or a reply to items that came.
-fn next_frame<E: Element>(
-    link: &LinkView,
-    table: &LinkTable,
-    copies: &[E],
-    gathered: bool,
-    got: bool,
-) -> Option<Frame>
-    requires room { link.now.copies ≤ length copies.now }
-    ensures { result ≡ cond (item_due link.now.ups.now link.now.downs.now
-        (link_at table.now.links link.now.from link.now.to).i gathered || got)
-        (Some (frame_due E.Element.algebra link.now.ups.now link.now.downs.now
-        (link_at table.now.links link.now.from link.now.to).i
-        (link_at table.now.links link.now.to link.now.from).j gathered copies.now)) None }
-{
-    let item = next_item(link, table, copies, gathered);
-    if item.is_some() || got {
-        let reply = bit_of(table.links[link.place_back()].j);
-        Some(Frame { reply, item })
-    } else {
-        None
+impl<E: Element> Sender<'_, E> {
+    // The item that is due, if any: the first that is not known to have arrived.
+    fn next_item(&self) -> Option<Item>
+        ensures { result ≡ (frame_due E.Element.algebra self.now.link.ups.now self.now.link.downs.now
+            self.now.arrived self.now.accepted self.now.gathered self.now.copies.now).item }
+    {
+        if !self.link.wants(self.arrived, self.gathered) {
+            return None;
+        }
+        Some(Item {
+            bit: bit_of(self.arrived),
+            words: self.link.item_value(self.copies, self.arrived).pack(),
+        })
     }
-}
 
-// Puts what is due over the link, if anything, and answers how many frames it left.
-fn speak<E: Element, D: Medium>(
-    link: &LinkView,
-    table: &LinkTable,
-    medium: &mut D,
-    copies: &[E],
-    gathered: bool,
-    got: bool,
-) -> Option<usize>
-    requires room { link.now.copies ≤ length copies.now }
-    ensures { let is_due = item_due link.now.ups.now link.now.downs.now
-        (link_at table.now.links link.now.from link.now.to).i gathered || got in
-        elim result [
-          | None ↦ (is_due ≡ false) × (D.Medium.lanes medium.new ≡ D.Medium.lanes medium.old)
-          | Some k ↦ (is_due ≡ true) × (D.Medium.lanes medium.new
-              ≡ appended (D.Medium.lanes medium.old) link.now.from link.now.to
-              (frame_due E.Element.algebra link.now.ups.now link.now.downs.now
-              (link_at table.now.links link.now.from link.now.to).i
-              (link_at table.now.links link.now.to link.now.from).j gathered copies.now) k)
-        ] }
-{
-    let frame = next_frame(link, table, copies, gathered, got)?;
-    Some(medium.put(link.from, link.to, frame))
+    // The frame that is due, if any: an item, or a reply to items that came.
+    fn next_frame(&self) -> Option<Frame>
+        ensures { result ≡ cond (item_due self.now.link.ups.now self.now.link.downs.now self.now.arrived
+            self.now.gathered || self.now.got)
+            (Some (frame_due E.Element.algebra self.now.link.ups.now self.now.link.downs.now
+            self.now.arrived self.now.accepted self.now.gathered self.now.copies.now)) None }
+    {
+        let item = self.next_item();
+        if item.is_some() || self.got {
+            let reply = bit_of(self.accepted);
+            Some(Frame { reply, item })
+        } else {
+            None
+        }
+    }
+
+    // Puts what is due, if anything, and answers how many frames it left.
+    fn speak<D: Medium>(&self, medium: &mut D) -> Option<usize>
+        ensures { let is_due = item_due self.now.link.ups.now self.now.link.downs.now self.now.arrived
+            self.now.gathered || self.now.got in
+            elim result [
+              | None ↦ (is_due ≡ false) × (D.Medium.lanes medium.new ≡ D.Medium.lanes medium.old)
+              | Some k ↦ (is_due ≡ true) × (D.Medium.lanes medium.new
+                  ≡ appended (D.Medium.lanes medium.old) self.now.link.from self.now.link.to
+                  (frame_due E.Element.algebra self.now.link.ups.now self.now.link.downs.now
+                  self.now.arrived self.now.accepted self.now.gathered self.now.copies.now) k)
+            ] }
+    {
+        let frame = self.next_frame()?;
+        Some(medium.put(self.link.from, self.link.to, frame))
+    }
 }
 
 // Whether all that rises along the link was accepted.
 fn all_risen(link: &LinkView, table: &LinkTable) -> bool
     ensures { result ≡ nat_le (length link.now.ups.now) (accepted_in table.now.links link.now.from link.now.to) }
 {
-    link.ups.len() <= table.links[link.place()].j
+    link.ups.len() <= link.counts(table).j
 }
 
 // Whether board p has accepted all that rises to it.
@@ -135,7 +127,15 @@ pub(crate) fn send<E: Element, D: Medium>(
             continue;
         }
         let link = LinkView::of(plan, p, q);
-        if let Some(left) = speak(&link, table, medium, copies, gathered, got[q]) {
+        let sender = Sender {
+            link,
+            arrived: link.counts(table).i,
+            accepted: link.counts_back(table).j,
+            gathered,
+            got: got[q],
+            copies,
+        };
+        if let Some(left) = sender.speak(medium) {
             made += 1;
             lost += usize::from(left == 0);
         }

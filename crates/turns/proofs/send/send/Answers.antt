@@ -21,7 +21,7 @@ loop-q-preserved g c =
     elim c.match-speak.branch [
       | in-Some w ↦
           let (is, after) =
-          rw (l.ends.0, l.ends.1, l.ups, l.downs, c.has_gathered-gathered.ensures) at w.in-Some.ensures in
+          rw (c.counts.ensures, c.counts_back.ensures, l.ends.0, l.ends.1, l.ups, l.downs, c.has_gathered-gathered.ensures) at w.in-Some.ensures in
           rw (w.made-is, w.lost-is, w.from-lost.ensures) record {
             so_far = one_put p owed frame (lanes c.args.medium.now) q (lanes c.loop-q.medium) c.loop-q.made
                 c.loop-q.lost v.so_far c.if-q-p.false (lanes c.speak.new.medium) w.in-Some.left is after;
@@ -29,7 +29,7 @@ loop-q-preserved g c =
           }
       | in_default w ↦
           let (is, after) =
-          rw (l.ends.0, l.ends.1, l.ups, l.downs, c.has_gathered-gathered.ensures) at w.in_default.ensures in
+          rw (c.counts.ensures, l.ends.0, l.ends.1, l.ups, l.downs, c.has_gathered-gathered.ensures) at w.in_default.ensures in
           rw (w.made-is, w.lost-is) record {
             so_far = no_put p owed frame (lanes c.args.medium.now) q (lanes c.loop-q.medium) c.loop-q.made
                 c.loop-q.lost v.so_far c.if-q-p.false (lanes c.speak.new.medium) is after;
