@@ -3,12 +3,12 @@ ghost use Rattle.std.specs.Prelude.{◌≡◌, ◌+◌, ◌<◌, ◌≤◌, fals
 ghost use Rattle.protocol.specs.Frames.{brings, some_item, words_of};
 ghost use Rattle.protocol.specs.Steps.{held, told, grown, frame_step, frames_step, emptied, received, lanes_step};
 
+use crate::board::BoardView;
 use crate::link::{LinkView, bit_of};
 use element::element::Element;
 use element::words::Words;
 use medium::frame::Frame;
 use medium::medium::Medium;
-use plan::view::PlanView;
 use protocol::table::{Link, LinkTable};
 
 // A reply that differs from the count's bit tells that one more item has arrived.
@@ -101,31 +101,37 @@ fn take_lane<E: Element, D: Medium>(
     haul.got[link.from] = item;
 }
 
-// Board p takes all that waits for it, from the other boards in ascending order.
-pub(crate) fn receive<E: Element, D: Medium>(
-    plan: &PlanView,
-    table: &mut LinkTable,
-    medium: &mut D,
-    copies: &mut [E],
-    p: usize,
-) -> Haul
-    requires board { p < plan.now.boards }
-    requires room { length plan.now.copies.now ≤ length copies.old }
-    ensures after { received table.new.links copies.new result.accepted
-        (D.Medium.lanes medium.new) result.taken result.got ≡ lanes_step E.Element.algebra
-        plan.now.edges.now p plan.now.boards
-        (received table.old.links copies.old 0 (D.Medium.lanes medium.old) 0 (replicate 8 false)) }
-    ensures few { result.taken ≤ 512 }
-{
-    let mut haul = Haul {
-        taken: 0,
-        accepted: 0,
-        got: [false; 8],
-    };
-    for q in 0..plan.boards() {
-        if q != p {
-            take_lane(&LinkView::of(plan, q, p), table, medium, copies, &mut haul);
+impl BoardView<'_> {
+    // The board takes all that waits for it, from the other boards in ascending order.
+    pub(crate) fn receive<E: Element, D: Medium>(
+        &self,
+        table: &mut LinkTable,
+        medium: &mut D,
+        copies: &mut [E],
+    ) -> Haul
+        requires room { length self.now.plan.now.copies.now ≤ length copies.old }
+        ensures after { received table.new.links copies.new result.accepted
+            (D.Medium.lanes medium.new) result.taken result.got ≡ lanes_step E.Element.algebra
+            self.now.plan.now.edges.now self.now.board self.now.plan.now.boards
+            (received table.old.links copies.old 0 (D.Medium.lanes medium.old) 0 (replicate 8 false)) }
+        ensures few { result.taken ≤ 512 }
+    {
+        let mut haul = Haul {
+            taken: 0,
+            accepted: 0,
+            got: [false; 8],
+        };
+        for q in 0..self.plan.boards() {
+            if q != self.board {
+                take_lane(
+                    &LinkView::of(self.plan, q, self.board),
+                    table,
+                    medium,
+                    copies,
+                    &mut haul,
+                );
+            }
         }
+        haul
     }
-    haul
 }

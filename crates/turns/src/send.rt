@@ -6,11 +6,11 @@ ghost use Rattle.protocol.specs.Runs.{accepted_in};
 ghost use Rattle.protocol.specs.Turns.{others};
 ghost use Rattle.protocol.specs.Steps.{Sent, due, due_frame, item_due, frame_due};
 
+use crate::board::BoardView;
 use crate::link::{LinkView, bit_of};
 use element::element::Element;
 use medium::frame::{Frame, Item};
 use medium::medium::Medium;
-use plan::view::PlanView;
 use protocol::table::LinkTable;
 
 // A board that has received, at one of its links: what decides its next frame there.
@@ -83,16 +83,6 @@ fn all_risen(link: &LinkView, table: &LinkTable) -> bool
     link.ups.len() <= link.counts(table).j
 }
 
-// Whether board p has accepted all that rises to it.
-fn has_gathered(plan: &PlanView, table: &LinkTable, p: usize) -> bool
-    requires { p < plan.now.boards }
-    ensures { result ≡ others p plan.now.boards
-        (λ q. nat_le (length (edges_between plan.now.edges.now q p))
-        (accepted_in table.now.links q p)) }
-{
-    (0..plan.boards()).all(|q| q == p || all_risen(&LinkView::of(plan, q, p), table))
-}
-
 // How many puts were made, and how many of them left no frame.
 #[derive(Clone, Copy)]
 pub(crate) struct Puts {
@@ -101,44 +91,54 @@ pub(crate) struct Puts {
     ghost within: { lost ≤ made },
 }
 
-// Board p puts what is due to each other board, in ascending order.
-pub(crate) fn send<E: Element, D: Medium>(
-    plan: &PlanView,
-    table: &LinkTable,
-    medium: &mut D,
-    copies: &[E],
-    p: usize,
-    got: &[bool; 8],
-) -> Puts
-    requires board { p < plan.now.boards }
-    requires room { length plan.now.copies.now ≤ length copies.now }
-    ensures after { Sent p (due E.Element.algebra plan.now.boards
-        plan.now.edges.now p table.now.links got.now)
-        (due_frame E.Element.algebra plan.now.boards plan.now.edges.now p
-        table.now.links copies.now) (D.Medium.lanes medium.old)
-        plan.now.boards (D.Medium.lanes medium.new) result.made result.lost }
-    ensures few { result.made ≤ 8 }
-{
-    let gathered = has_gathered(plan, table, p);
-    let mut made: usize = 0;
-    let mut lost: usize = 0;
-    for q in 0..plan.boards() {
-        if q == p {
-            continue;
-        }
-        let link = LinkView::of(plan, p, q);
-        let sender = Sender {
-            link,
-            arrived: link.counts(table).i,
-            accepted: link.counts_back(table).j,
-            gathered,
-            got: got[q],
-            copies,
-        };
-        if let Some(left) = sender.speak(medium) {
-            made += 1;
-            lost += usize::from(left == 0);
-        }
+impl BoardView<'_> {
+    // Whether the board has accepted all that rises to it.
+    fn has_gathered(&self, table: &LinkTable) -> bool
+        ensures { result ≡ others self.now.board self.now.plan.now.boards
+            (λ q. nat_le (length (edges_between self.now.plan.now.edges.now q self.now.board))
+            (accepted_in table.now.links q self.now.board)) }
+    {
+        (0..self.plan.boards()).all(|q| q == self.board
+            || all_risen(&LinkView::of(self.plan, q, self.board), table))
     }
-    Puts { made, lost }
+
+    // The board puts what is due to each other board, in ascending order.
+    pub(crate) fn send<E: Element, D: Medium>(
+        &self,
+        table: &LinkTable,
+        medium: &mut D,
+        copies: &[E],
+        got: &[bool; 8],
+    ) -> Puts
+        requires room { length self.now.plan.now.copies.now ≤ length copies.now }
+        ensures after { Sent self.now.board (due E.Element.algebra self.now.plan.now.boards
+            self.now.plan.now.edges.now self.now.board table.now.links got.now)
+            (due_frame E.Element.algebra self.now.plan.now.boards self.now.plan.now.edges.now self.now.board
+            table.now.links copies.now) (D.Medium.lanes medium.old)
+            self.now.plan.now.boards (D.Medium.lanes medium.new) result.made result.lost }
+        ensures few { result.made ≤ 8 }
+    {
+        let gathered = self.has_gathered(table);
+        let mut made: usize = 0;
+        let mut lost: usize = 0;
+        for q in 0..self.plan.boards() {
+            if q == self.board {
+                continue;
+            }
+            let link = LinkView::of(self.plan, self.board, q);
+            let sender = Sender {
+                link,
+                arrived: link.counts(table).i,
+                accepted: link.counts_back(table).j,
+                gathered,
+                got: got[q],
+                copies,
+            };
+            if let Some(left) = sender.speak(medium) {
+                made += 1;
+                lost += usize::from(left == 0);
+            }
+        }
+        Puts { made, lost }
+    }
 }

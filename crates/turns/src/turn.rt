@@ -1,10 +1,9 @@
 // A turn of one board.
-ghost use Rattle.std.specs.Prelude.{◌≡◌, ◌≤◌, length, Some, None, Ok, Err};
+ghost use Rattle.std.specs.Prelude.{◌≡◌, ◌≤◌, Some, None, Ok, Err};
 ghost use Rattle.protocol.specs.Runs.{moment, no_tally};
 ghost use Rattle.turns.specs.Taken.{taking_fault, TurnTaken, OwnCopiesAlone};
 
-use crate::receive::receive;
-use crate::send::send;
+use crate::board::BoardView;
 use element::element::Element;
 use medium::medium::Medium;
 use plan::view::PlanView;
@@ -12,10 +11,15 @@ use protocol::fault::RunFault;
 use protocol::table::LinkTable;
 use protocol::tally::TurnCounts;
 
-// Whether there is such a board, and room for the plan's copies.
-fn check_turn(plan: &PlanView, room: usize, board: usize) -> Result<(), RunFault>
+// The board, if there is such a one, and room for the plan's copies.
+fn check_turn<'a>(
+    plan: &'a PlanView<'a>,
+    room: usize,
+    board: usize,
+) -> Result<BoardView<'a>, RunFault>
     ensures { elim result [
-      | Ok _ ↦ taking_fault plan.now.boards plan.now.copies.now room board ≡ None
+      | Ok b ↦ (taking_fault plan.now.boards plan.now.copies.now room board ≡ None)
+          × (b.plan.now ≡ plan.now) × (b.board ≡ board)
       | Err f ↦ taking_fault plan.now.boards plan.now.copies.now room board ≡ Some f
     ] }
 {
@@ -26,7 +30,7 @@ fn check_turn(plan: &PlanView, room: usize, board: usize) -> Result<(), RunFault
     if room < needed {
         return Err(RunFault::Short { needed });
     }
-    Ok(())
+    Ok(BoardView { plan, board })
 }
 
 // Board `board` takes all that waits for it, then puts what is due.
@@ -50,9 +54,9 @@ pub fn take_turn<E: Element, D: Medium>(
       | Err _ ↦ Unit {0}
     ] }
 {
-    check_turn(plan, copies.len(), board)?;
-    let haul = receive(plan, table, medium, copies, board);
-    let puts = send(plan, table, medium, copies, board, &haul.got);
+    let own = check_turn(plan, copies.len(), board)?;
+    let haul = own.receive(table, medium, copies);
+    let puts = own.send(table, medium, copies, &haul.got);
     Ok(TurnCounts {
         taken: haul.taken,
         accepted: haul.accepted,

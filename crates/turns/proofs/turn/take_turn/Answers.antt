@@ -10,12 +10,14 @@ returns g c =
     let lanes = g.D.Medium.lanes in
     let haul = c.receive-haul.result in
     let puts = c.send-puts.result in
+    let (none, same, own) = c.in_ok-own.ensures in
     let (exact, alone) = turn_by_the_rules A plan.boards plan.copies.now plan.edges.now plan.sound
     c.args.board c.args.table.now.links c.receive-haul.new.table.links c.args.copies.now
     c.receive-haul.new.copies (lanes c.args.medium.now) (lanes c.receive-haul.new.medium)
     (lanes c.send-puts.new.medium) (replicate 8 false) haul.got haul.taken
-    haul.accepted puts.made puts.lost c.in_ok-check_turn.ensures
-    c.args.table.now.full refl c.receive-haul.ensures.after c.send-puts.ensures.after in
+    haul.accepted puts.made puts.lost none
+    c.args.table.now.full refl (rw (same, own) at c.receive-haul.ensures.after)
+    (rw (same, own) at c.send-puts.ensures.after) in
     record {
       exact = exact;
       alone = alone;

@@ -5,12 +5,12 @@ use Rattle.std.proofs.lemmas.Iterator.Search.{all_from_yields_List}
 use Rattle.plan.specs.Links.{edges_between}
 use Rattle.protocol.specs.Runs.{accepted_in}
 use Rattle.turns.proofs.Gathered.{others_from_all}
-use Rattle.turns.proofs.send.has_gathered.Goals as goal
+use Rattle.turns.proofs.board.BoardView.has_gathered.Goals as goal
 
 pub returns : goal.returns
 returns c =
-    let p = c.args.p in
-    let plan = c.args.plan.now in
+    let p = c.args.self.now.board in
+    let plan = c.args.self.now.plan.now in
     all_from_yields_List (λ q. eqb q p || leb (length (edges_between plan.edges.now q p))
     (accepted_in c.args.table.now.links q p))
     _ _ c.all.result c.all.ensures.ran (YieldsList-from_range 0 plan.boards plan.boards (cc) (omega arith))

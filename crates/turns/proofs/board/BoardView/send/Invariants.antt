@@ -1,16 +1,16 @@
 -- So far the puts to the boards below q.
 use Rattle.std.proofs.Common.{◌≤◌}
 use Rattle.protocol.specs.Steps.{Sent, due, due_frame}
-use Rattle.turns.proofs.send.send.Given as goal
+use Rattle.turns.proofs.board.BoardView.send.Given as goal
 
 abbrev pub invariant-loop-q : goal.invariant-loop-q
 invariant-loop-q g l =
     let A = g.E.Element.algebra in
-    let edges = l.plan.edges.now in
-    let boards = l.plan.boards in
+    let edges = l.self.plan.now.edges.now in
+    let boards = l.self.plan.now.boards in
     record {
-      so_far : Sent l.p (due A boards edges l.p l.table.links l.got)
-          (due_frame A boards edges l.p l.table.links l.copies) (g.D.Medium.lanes l.initial.medium)
+      so_far : Sent l.self.board (due A boards edges l.self.board l.table.links l.got)
+          (due_frame A boards edges l.self.board l.table.links l.copies) (g.D.Medium.lanes l.initial.medium)
           l.q
           (g.D.Medium.lanes l.medium) l.made l.lost;
       few : (l.lost ≤ l.made) × (l.made ≤ l.q);

@@ -3,15 +3,15 @@ use Rattle.std.proofs.Common.{eqb, arith}
 use Rattle.protocol.specs.Steps.{due, due_frame}
 use Rattle.protocol.proofs.Lanes.{byte_at_most_one}
 use Rattle.turns.proofs.Putting.{one_put, no_put}
-use Rattle.turns.proofs.send.send.Goals as goal
-use Rattle.turns.proofs.send.send.Goals.{in-Some, in_default}
+use Rattle.turns.proofs.board.BoardView.send.Goals as goal
+use Rattle.turns.proofs.board.BoardView.send.Goals.{in-Some, in_default}
 
 pub loop-q-preserved : goal.loop-q-preserved
 loop-q-preserved g c =
     let A = g.E.Element.algebra in
-    let plan = c.args.plan.now in
+    let plan = c.args.self.now.plan.now in
     let links = c.args.table.now.links in
-    let p = c.args.p in
+    let p = c.args.self.now.board in
     let q = c.loop-q.q in
     let lanes = g.D.Medium.lanes in
     let v = c.loop-q.invariant in
@@ -21,18 +21,33 @@ loop-q-preserved g c =
     elim c.match-speak.branch [
       | in-Some w ↦
           let (is, after) =
-          rw (c.counts.ensures, c.counts_back.ensures, l.ends.0, l.ends.1, l.ups, l.downs, c.has_gathered-gathered.ensures) at w.in-Some.ensures in
+          rw (
+            c.counts.ensures,
+            c.counts_back.ensures,
+            l.ends.0,
+            l.ends.1,
+            l.ups,
+            l.downs,
+            c.has_gathered-gathered.ensures,
+          ) at w.in-Some.ensures in
           rw (w.made-is, w.lost-is, w.from-lost.ensures) record {
             so_far = one_put p owed frame (lanes c.args.medium.now) q (lanes c.loop-q.medium) c.loop-q.made
-                c.loop-q.lost v.so_far c.if-q-p.false (lanes c.speak.new.medium) w.in-Some.left is after;
+                c.loop-q.lost v.so_far c.if-q-self.false (lanes c.speak.new.medium) w.in-Some.left is after;
             few = (omega (arith, byte_at_most_one (eqb w.in-Some.left 0)), omega arith);
           }
       | in_default w ↦
           let (is, after) =
-          rw (c.counts.ensures, l.ends.0, l.ends.1, l.ups, l.downs, c.has_gathered-gathered.ensures) at w.in_default.ensures in
+          rw (
+            c.counts.ensures,
+            l.ends.0,
+            l.ends.1,
+            l.ups,
+            l.downs,
+            c.has_gathered-gathered.ensures,
+          ) at w.in_default.ensures in
           rw (w.made-is, w.lost-is) record {
             so_far = no_put p owed frame (lanes c.args.medium.now) q (lanes c.loop-q.medium) c.loop-q.made
-                c.loop-q.lost v.so_far c.if-q-p.false (lanes c.speak.new.medium) is after;
+                c.loop-q.lost v.so_far c.if-q-self.false (lanes c.speak.new.medium) is after;
             few = (omega arith, omega arith);
           }
     ]
