@@ -26,14 +26,12 @@ fn accept_item(counts: &mut Link, items: usize, frame: &Frame) -> Option<(usize,
     ensures value { result ≡ cond (brings items counts.old.j frame.now)
         (Some (counts.old.j, words_of frame.now.item)) None }
 {
-    let item = frame.item?;
     let number = counts.j;
-    if number < items && item.bit == bit_of(number) {
-        counts.j += 1;
-        Some((number, item.words))
-    } else {
-        None
-    }
+    let item = frame
+        .item
+        .filter(|item| number < items && item.bit == bit_of(number))?;
+    counts.j += 1;
+    Some((number, item.words))
 }
 
 // What a board has received in this turn: frames taken, items accepted, and from which boards an item came.

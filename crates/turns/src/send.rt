@@ -51,12 +51,8 @@ impl<E: Element> Sender<'_, E> {
             self.now.arrived self.now.accepted self.now.gathered self.now.copies.now)) None }
     {
         let item = self.next_item();
-        if item.is_some() || self.got {
-            let reply = bit_of(self.accepted);
-            Some(Frame { reply, item })
-        } else {
-            None
-        }
+        let reply = bit_of(self.accepted);
+        (item.is_some() || self.got).then_some(Frame { reply, item })
     }
 
     // Puts what is due, if anything, and answers how many frames it left.
