@@ -44,6 +44,8 @@ pub(crate) struct Haul {
 }
 
 // One frame that came over the link: its reply, then its item.
+// Kept: table and copies, with room for them, stay arguments here and in `take_lane`. Of a struct of `&mut`s each
+// contract would say besides that every reference in it is the same as before.
 fn take_frame<E: Element>(
     link: &LinkView,
     table: &mut LinkTable,
@@ -60,12 +62,9 @@ fn take_frame<E: Element>(
     ensures got { haul.new.got ≡ haul.old.got }
 {
     haul.taken += 1;
-    hear_reply(&mut table.links[link.place_back()], link.items(), frame);
-    if let Some((number, words)) = accept_item(
-        &mut table.links[link.place()],
-        link.items(),
-        frame,
-    ) {
+    let items = link.items();
+    hear_reply(&mut table.links[link.place_back()], items, frame);
+    if let Some((number, words)) = accept_item(&mut table.links[link.place()], items, frame) {
         link.accept(copies, number, words);
         haul.accepted += 1;
     }

@@ -1,10 +1,16 @@
--- One board more.
-use Rattle.std.proofs.Common.{eqb, arith}
+-- One board more, and then all boards.
+use Rattle.std.proofs.Common.{◌≡◌, eqb, arith}
 use Rattle.protocol.specs.Steps.{due, due_frame}
 use Rattle.protocol.proofs.Lanes.{byte_at_most_one}
-use Rattle.turns.proofs.Putting.{one_put, no_put}
+use Rattle.turns.proofs.Putting.{itself, one_put, no_put}
 use Rattle.turns.proofs.board.BoardView.send.Goals as goal
 use Rattle.turns.proofs.board.BoardView.send.Goals.{in-Some, in_default}
+
+pub loop-q-preserved-then-q-self : goal.loop-q-preserved-then-q-self
+loop-q-preserved-then-q-self g c = record {
+  so_far = itself _ _ _ _ c.loop-q.q _ _ _ c.loop-q.invariant.so_far c.if-q-self.true;
+  few = (omega arith, omega arith);
+}
 
 pub loop-q-preserved : goal.loop-q-preserved
 loop-q-preserved g c =
@@ -51,3 +57,8 @@ loop-q-preserved g c =
             few = (omega arith, omega arith);
           }
     ]
+
+pub returns-clause-after : goal.returns-clause-after
+returns-clause-after g c =
+    let all : c.loop-q.q ≡ c.args.self.now.plan.now.boards = omega arith in
+    rw all at c.loop-q.invariant.so_far
