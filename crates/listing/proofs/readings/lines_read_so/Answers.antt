@@ -1,5 +1,5 @@
 -- Each example computes.
-use Rattle.std.proofs.Common.{refl, rules}
+use Rattle.std.proofs.Common.{refl}
 use Rattle.std.specs.Fmt.{digits}
 use Rattle.listing.specs.Readings.{Readings}
 use Rattle.listing.proofs.readings.lines_read_so.Goals as goal
@@ -8,5 +8,5 @@ examples : Readings
 unfolding digits
 examples = record { plan = refl; tally = refl; settled = refl; awaits = refl; copy = refl; refusal = refl }
 
-pub returns : goal.returns
-returns c = record { answer = search rules; readings = examples }
+pub returns-clause-readings : goal.returns-clause-readings
+returns-clause-readings c = examples

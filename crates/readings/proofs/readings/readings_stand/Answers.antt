@@ -1,5 +1,5 @@
 -- The table computes, and its run is one by the rules.
-use Rattle.std.proofs.Common.{refl, rules}
+use Rattle.std.proofs.Common.{refl}
 use Rattle.std.specs.Fmt.{digits}
 use Rattle.element.specs.Models.{depth_algebra}
 use Rattle.readings.specs.Readings.{Readings}
@@ -10,5 +10,8 @@ examples : Readings
 unfolding digits
 examples = refl
 
-pub returns : goal.returns
-returns c = record { answer = search rules; readings = examples; turns = step_turns depth_algebra }
+pub returns-clause-readings : goal.returns-clause-readings
+returns-clause-readings c = examples
+
+pub returns-clause-turns : goal.returns-clause-turns
+returns-clause-turns c = step_turns depth_algebra
