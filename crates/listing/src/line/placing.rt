@@ -9,7 +9,7 @@ impl Line {
     pub fn bytes(&self) -> &[u8]
         ensures { result.now ≡ held self.now }
     {
-        &self.bytes[0..self.len]
+        &self.bytes[..self.len]
     }
 
     // Into `out` from `at` on. The answer is where the line ends.

@@ -1,8 +1,9 @@
 // A line grows at its end.
-ghost use Rattle.std.specs.Prelude.{◌≡◌, ◌+◌, ◌<◌, ◌≤◌, [], ◌∷◌, ◌++◌, length, decimal};
+ghost use Rattle.std.specs.Prelude.{◌≡◌, ◌+◌, ◌≤◌, [], ◌++◌, length};
 ghost use Rattle.listing.specs.Held.{held};
 
 use super::Line;
+use itoa::{Buffer, Integer};
 
 impl Line {
     pub(crate) fn new() -> Line
@@ -15,36 +16,32 @@ impl Line {
         }
     }
 
-    pub(crate) fn byte(&mut self, b: u8)
-        requires { self.old.len < 160 }
-        ensures holds { held self.new ≡ held self.old ++ b ∷ [] }
-        ensures size { self.new.len ≡ self.old.len + 1 }
-    {
-        self.bytes[self.len] = b;
-        self.len += 1;
-    }
-
-    pub(crate) fn text(&mut self, text: &[u8])
+    pub(crate) fn text(&mut self, text: &str)
         requires { self.old.len + length text.now ≤ 160 }
         ensures holds { held self.new ≡ held self.old ++ text.now }
         ensures size { self.new.len ≡ self.old.len + length text.now }
     {
-        for i in 0..text.len() {
-            self.byte(text[i]);
-        }
+        let end = self.len + text.len();
+        self.bytes[self.len..end].copy_from_slice(text.as_bytes());
+        self.len = end;
     }
 
     // In decimal.
-    pub(crate) fn number(&mut self, n: usize)
-        requires { self.old.len + length (decimal n) ≤ 160 }
-        ensures holds { held self.new ≡ held self.old ++ decimal n }
-        ensures size { self.new.len ≡ self.old.len + length (decimal n) }
+    pub(crate) fn number<I: Integer>(&mut self, n: I)
+        requires { self.old.len + I.MAX_STR_LEN ≤ 160 }
+        ensures holds { held self.new ≡ held self.old ++ I.text n }
+        ensures size { self.new.len ≤ self.old.len + I.MAX_STR_LEN }
     {
-        if n < 10 {
-            self.byte(48 + n as u8);
-            return;
-        }
-        self.number(n / 10);
-        self.byte(48 + (n % 10) as u8);
+        self.text(Buffer::new().format(n));
+    }
+
+    // A number after the text that names it.
+    pub(crate) fn field<I: Integer>(&mut self, text: &str, n: I)
+        requires { self.old.len + length text.now + I.MAX_STR_LEN ≤ 160 }
+        ensures holds { held self.new ≡ held self.old ++ (text.now ++ I.text n) }
+        ensures size { self.new.len ≤ self.old.len + length text.now + I.MAX_STR_LEN }
+    {
+        self.text(text);
+        self.number(n);
     }
 }
