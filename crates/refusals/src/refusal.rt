@@ -17,6 +17,7 @@ pub enum Refusal {
     Run(RunFault),
 }
 
+// Kept: a derive writes these without `from_gives`, and callers name the fault that a `?` hands on.
 impl From<SceneFault> for Refusal {
     ghost from_gives = { λ f r. r ≡ Scene f };
 
@@ -49,6 +50,7 @@ impl From<RunFault> for Refusal {
     }
 }
 
+// Kept: a trait of what has numbers would be called here alone, and needs an impl for each of the four faults.
 impl Refusal {
     // The refusal's number.
     pub fn number(&self) -> usize
