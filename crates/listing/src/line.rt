@@ -5,7 +5,7 @@ mod placing;
 mod writing;
 
 // The first `len` of `bytes`. No line has more than five numbers of 20 digits and 38 bytes besides.
-// Kept: over an `ArrayString`, which has a model, no proof lets a caller copy an `Option` or a struct that holds a line.
+// Kept: as an `ArrayString`, which has a model, a line could not be copied within an `Option` or a struct.
 #[derive(Clone, Copy)]
 pub struct Line {
     bytes: [u8; 160],

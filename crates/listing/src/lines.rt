@@ -18,8 +18,7 @@ pub struct PlanNumbers {
     pub edges: usize,
 }
 
-// Kept: no `Display`, since `write!` tells its bytes only where it answers `Ok`, and nothing tells when it does; a line
-// cannot fail.
+// Kept: no `Display`. `write!` tells its bytes only on `Ok`, and nothing tells when that is; a line cannot fail.
 pub fn plan_line(plan: PlanNumbers) -> Line
     ensures { held result ≡ plan_line plan.boards plan.overlap plan.kind plan.copies plan.edges }
 {
