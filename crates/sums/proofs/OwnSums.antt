@@ -1,9 +1,9 @@
 -- The table of own sums, as contributions are joined into it, and the copies that are set from it.
-use Rattle.std.proofs.Common.{◌≡◌, ℕ, zero, suc, ◌+◌, ◌<◌, ◌≤◌, true, eqb, List, [], ◌∷◌, ◌++◌, map, length, get_or}
-use Rattle.std.proofs.Common.{take, drop, set, replicate, Some, None, Option, sym, refl, ap, ◌∙◌, subst, ap₂, inl}
+use Rattle.std.proofs.Common.{◌≡◌, ℕ, zero, suc, ◌+◌, ◌<◌, ◌≤◌, eqb, List, [], ◌∷◌, ◌++◌, map, length, get_or}
+use Rattle.std.proofs.Common.{Bor, take, drop, set, replicate, Some, None, Option, sym, refl, ap, ◌∙◌, subst, ap₂, inl}
 use Rattle.std.proofs.Common.{inr, arith}
 use Rattle.std.specs.List.{slice_get, AllByRecursion}
-use Rattle.std.proofs.ByRecursion.{All-weaker, All-get_or}
+use Rattle.std.proofs.ByRecursion.{All-get_or}
 use Rattle.std.proofs.lemmas.List.{append_assoc, map-append, map_more, take_all, take_more, drop_more, set_at}
 use Rattle.std.proofs.lemmas.List.{length-set, length-take-le, length-map, length-replicate, get_or-set_same}
 use Rattle.std.proofs.lemmas.List.{get_or-set_other, get_or-replicate}
@@ -18,10 +18,10 @@ use Rattle.scene.specs.Sums.{contributions, own_sum}
 use Rattle.scene.proofs.Ranges.{boards_low, corners_low}
 use Rattle.scene.proofs.Reading.{board_some, corner_some, part_some}
 use Rattle.plan.specs.declared.records.CopyRecord.{CopyRecord}
-use Rattle.plan.specs.declared.records.Edge.{Edge}
-use Rattle.plan.specs.Sound.{sound_plan}
+use Rattle.plan.specs.declared.view.PlanView.{PlanView}
+use Rattle.plan.specs.Links.{no_copy}
 use Rattle.plan.proofs.Plans.{boards_within, copies_below}
-use Rattle.sums.specs.Sums.{loaded_copies, place_of, sum_at, joined_at, corner_joined, first_corners}
+use Rattle.sums.specs.Sums.{place_of, sum_at, joined_at, corner_joined, first_corners}
 use Rattle.sums.specs.Sums.{table_size, cells_sum, HoldsSums}
 use Rattle.sums.proofs.Contributions.{no_corners, corner_here, corner_else, all_corners}
 
@@ -43,15 +43,15 @@ of_within P Q f h None p = tt
 of_within P Q f h (Some c) p = h c p
 
 module _ (s : Scene) (sound : Sound s) where
-  pub board_low : (c p : ℕ) → board_of s c ≡ Some p → p < 8
+  pub board_low : (c p : ℕ) → Some p ≡ board_of s c → p < 8
   board_low c p e =
-      subst (Of (λ x. x < 8)) e
+      subst (Of (λ x. x < 8)) (sym e)
       (of_within (λ x. x.board < 8) (λ x. x < 8) (λ x. Some x.board) (λ x h. h) (slice_get s.cells c)
       (of_nth (λ x. x.board < 8) s.cells c (boards_low s sound)))
 
-  pub corner_low : (c k v : ℕ) → corner_of s c k ≡ Some v → v < 1024
+  pub corner_low : (c k v : ℕ) → Some v ≡ corner_of s c k → v < 1024
   corner_low c k v e =
-      subst (Of (λ x. x < 1024)) e
+      subst (Of (λ x. x < 1024)) (sym e)
       (of_within (λ x. AllByRecursion (λ y. y < 1024) x.corners) (λ x. x < 1024) (λ x. slice_get x.corners k)
       (λ x h. of_nth (λ y. y < 1024) x.corners k h) (slice_get s.cells c)
       (of_nth (λ x. AllByRecursion (λ y. y < 1024) x.corners) s.cells c (corners_low s sound)))
@@ -182,22 +182,18 @@ over_more f xs ys n d l m =
     ∙ sym (append_assoc (map f (take n xs)) (x ∷ []) (drop (n + 1) ys))
     ∙ ap (λ z. z ++ drop (n + 1) ys) (sym (map_more f xs n d l))
 
--- equal values at all elements
-pub map_alike : {X Y : Type 0} (P : X → Type 0) (f g : X → Y) → ((x : X) → P x → f x ≡ g x)
-    → (xs : List X) → AllByRecursion P xs → map f xs ≡ map g xs
-map_alike P f g h [] p = refl
-map_alike P f g h (x ∷ xs) p = ap₂ ◌∷◌ (h x p.0) (map_alike P f g h xs p.1)
+-- all elements are written over
+pub over_all : {X Y : Type 0} (f : X → Y) (xs : List X) (ys : List Y) (n : ℕ) → n ≡ length xs
+    → map f (take n xs) ++ drop n ys ≡ map f xs ++ drop (length xs) ys
+over_all f xs ys n e = rw (e, take_all (length xs) xs (omega arith)) refl
 
-pub copies_low : (boards : ℕ) (records : List CopyRecord) (edges : List Edge) → sound_plan boards records edges ≡ true
-    → AllByRecursion (λ r. (r.board < 8) × (r.vertex < 1024)) records
-copies_low boards records edges ok =
-    let w = boards_within boards records edges ok in
-    All-weaker _ _ (λ r h. (omega (arith, h.0, w.1), h.1)) records (copies_below boards records edges ok)
-
--- each copy is set to its own sum
-pub loaded : {M : Type 0} (A : Algebra M) (s : Scene) (table : List Words) (records : List CopyRecord)
-    → ((p v : ℕ) → p < 8 → v < 1024 → sum_at A table p v ≡ own_sum A s p v)
-    → AllByRecursion (λ r. (r.board < 8) × (r.vertex < 1024)) records
-    → map (λ r. sum_at A table r.board r.vertex) records ≡ loaded_copies A s records
-loaded A s table records h low =
-    map_alike _ _ _ (λ r l. h r.board r.vertex l.0 l.1) records low
+-- a plan's copies lie in the table
+pub copy_low : (plan : PlanView) (records : Bor (List CopyRecord)) → records ≡ plan.copies → (n : ℕ)
+    → n < length records.now
+    → ((get_or records.now n no_copy).board < 8) × ((get_or records.now n no_copy).vertex < 1024)
+copy_low plan records e n there =
+    let below = All-get_or _ records.now n no_copy there
+    (subst (λ (rs : Bor (List CopyRecord)). AllByRecursion (λ r. (r.board < plan.boards) × (r.vertex < 1024)) rs.now)
+    (sym e) (copies_below plan.boards plan.copies.now plan.edges.now plan.sound)) in
+    let few = boards_within plan.boards plan.copies.now plan.edges.now plan.sound in
+    (omega (arith, below.0, few.1), below.1)
