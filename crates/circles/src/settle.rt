@@ -9,27 +9,6 @@ use plan::view::PlanView;
 use protocol::fault::RunFault;
 use protocol::table::LinkTable;
 
-// One turn of each board, ascending, and which of them were made.
-fn turn_each<E: Element, D: Medium>(
-    turning: &mut Turning,
-    plan: &PlanView,
-    table: &mut LinkTable,
-    medium: &mut D,
-    copies: &mut [E],
-) -> Result<(), RunFault>
-    ensures { CircleAnswers E.Element.algebra plan.now.boards plan.now.copies.now
-        plan.now.edges.now (moment turning.old.tally table.old.links
-        copies.old (D.Medium.lanes medium.old))
-        (moment turning.new.tally table.new.links copies.new
-        (D.Medium.lanes medium.new)) result }
-{
-    let boards = plan.boards();
-    for p in 0..boards {
-        turning.turn(plan, table, medium, copies, p)?;
-    }
-    Ok(())
-}
-
 // One turn of each board, ascending.
 pub fn circle<E: Element, D: Medium>(
     turning: &mut Turning,
@@ -49,31 +28,10 @@ pub fn circle<E: Element, D: Medium>(
         (moment turning.new.tally table.new.links copies.new
         (D.Medium.lanes medium.new)) result }
 {
-    turn_each(turning, plan, table, medium, copies)
-}
-
-// Circles until every board is settled, and how many were made.
-fn turn_until_settled<E: Element, D: Medium>(
-    turning: &mut Turning,
-    plan: &PlanView,
-    table: &mut LinkTable,
-    medium: &mut D,
-    copies: &mut [E],
-    limit: usize,
-) -> Result<bool, RunFault>
-    ensures { SettleAnswers E.Element.algebra plan.now.boards plan.now.copies.now
-        plan.now.edges.now limit (moment turning.old.tally table.old.links
-        copies.old (D.Medium.lanes medium.old))
-        (moment turning.new.tally table.new.links copies.new
-        (D.Medium.lanes medium.new)) result }
-{
-    for k in 0..limit {
-        if turning.all_settled(plan, table) {
-            return Ok(true);
-        }
-        turn_each(turning, plan, table, medium, copies)?;
+    for p in 0..plan.boards() {
+        turning.turn(plan, table, medium, copies, p)?;
     }
-    Ok(turning.all_settled(plan, table))
+    Ok(())
 }
 
 // Circles until every board is settled, looked at before each, or as many as allowed; says whether all are settled.
@@ -96,5 +54,11 @@ pub fn settle<E: Element, D: Medium>(
         (moment turning.new.tally table.new.links copies.new
         (D.Medium.lanes medium.new)) result }
 {
-    turn_until_settled(turning, plan, table, medium, copies, limit)
+    for _ in 0..limit {
+        if turning.all_settled(plan, table) {
+            return Ok(true);
+        }
+        circle(turning, plan, table, medium, copies)?;
+    }
+    Ok(turning.all_settled(plan, table))
 }

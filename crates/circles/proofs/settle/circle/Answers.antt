@@ -1,17 +1,26 @@
--- What the turns come to for every run.
-use Rattle.protocol.specs.Runs.{moment}
-use Rattle.circles.proofs.Turns.{circle_told}
+-- One board more.
+use Rattle.std.proofs.Common.{◌≡◌, length, arith}
+use Rattle.std.proofs.lemmas.Result.{err_from_is_err_and}
+use Rattle.circles.proofs.Turns.{no_board_turned, next_board_turned, next_board_refused}
 use Rattle.circles.proofs.settle.circle.Goals as goal
 
-pub returns : goal.returns
-returns g c =
+pub loop-p-init : goal.loop-p-init
+loop-p-init g c =
     let plan = c.args.plan.now in
-    let lanes = g.D.Medium.lanes in
-    record {
-      told = circle_told g.E.Element.algebra g.met.E.Element.lawful plan.boards plan.copies.now plan.edges.now
-          (moment c.args.turning.now.tally c.args.table.now.links c.args.copies.now (lanes c.args.medium.now))
-          (moment c.turn_each.new.turning.tally c.turn_each.new.table.links c.turn_each.new.copies
-          (lanes c.turn_each.new.medium))
-          c.turn_each.result c.turn_each.auto.copies c.turn_each.ensures;
-      exact = c.turn_each.ensures;
-    }
+    no_board_turned g.E.Element.algebra g.met.E.Element.lawful plan.boards plan.copies.now
+    plan.edges.now _
+
+pub returns-in_err-turn : goal.returns-in_err-turn
+returns-in_err-turn g c =
+    let plan = c.args.plan.now in
+    let same : length c.turn.new.copies ≡ length c.args.copies.now = omega arith in
+    let refused = next_board_refused g.E.Element.algebra g.met.E.Element.lawful plan.boards plan.copies.now
+    plan.edges.now _ _ _ c.loop-p.p _ (omega arith) same c.loop-p.invariant c.in_err-turn.ensures.exact in
+    let failed = err_from_is_err_and c.from_residual.result c.from_residual.ensures.1 in
+    rw (failed.1, failed.2) (record { told = refused.0; exact = refused.1 })
+
+pub loop-p-preserved : goal.loop-p-preserved
+loop-p-preserved g c =
+    let plan = c.args.plan.now in
+    next_board_turned g.E.Element.algebra g.met.E.Element.lawful plan.boards plan.copies.now plan.edges.now _ _ _
+    c.loop-p.p c.in_ok-turn.field-0 c.loop-p.invariant c.in_ok-turn.ensures.exact c.in_ok-turn.ensures.promise

@@ -1,7 +1,7 @@
 -- So far the boards below p have turned.
 use Rattle.protocol.specs.Runs.{moment}
 use Rattle.circles.specs.Circles.{TurnedBelow}
-use Rattle.circles.proofs.settle.turn_each.Given as goal
+use Rattle.circles.proofs.settle.circle.Given as goal
 
 abbrev pub invariant-loop-p : goal.invariant-loop-p
 invariant-loop-p g l =
