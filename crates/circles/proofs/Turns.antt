@@ -1,6 +1,6 @@
 -- Turns of the boards in ascending order, and circles of them.
 use Rattle.std.proofs.Common.{◌≡◌, ℕ, suc, ◌+◌, ◌*◌, ◌<◌, ◌≤◌, Bool, true, false, not, List, [], ◌∷◌, ◌++◌, ◌⊎◌}
-use Rattle.std.proofs.Common.{length, Some, Ok, Err, sym, refl, ap, ◌∙◌, subst, inl, inr, mul-le-mul_right}
+use Rattle.std.proofs.Common.{length, Some, Ok, Err, Result, sym, refl, ap, ◌∙◌, subst, inl, inr, mul-le-mul_right}
 use Rattle.std.proofs.Common.{add-mul, add-one, arith}
 use Rattle.std.proofs.lemmas.Bool.{cases_lt, lt-ltb, le-leb}
 use Rattle.std.specs.List.{range_with_len}
@@ -17,7 +17,7 @@ use Rattle.protocol.specs.declared.fault.RunFault.{RunFault}
 use Rattle.exchange.specs.Calls.{TurnAnswers, turn_fault}
 use Rattle.exchange.specs.Going.{LaidPlan, Carried, GoesOn}
 use Rattle.exchange.proofs.Promises.{carried_nowhere, carried_on, carried_further}
-use Rattle.circles.specs.Circles.{circles, TurnedBelow, CircleAnswers, Circled, Settles}
+use Rattle.circles.specs.Circles.{circles, TurnedBelow, CircleAnswers, Circled, SettleAnswers, Settles}
 use Rattle.circles.specs.Circles.{UnsettledCircles, none, one_more, unsettled}
 
 pub unsettled_from : (b : Bool) → not b ≡ false → b ≡ true
@@ -76,7 +76,7 @@ module _ {M : Type 0} (A : Algebra M) (law : Lawful A) (boards : ℕ) (records :
         subst (λ (n : ℕ). Circles m n m₂) (sym (add-one k))
         (one_more k m₁ m₂ rounds (unsettled_from _ more) circle)
 
-    -- ---- what a refused turn comes to, where the memory keeps its length
+    -- ---- what a circle and circles come to, where the memory keeps its length
     none_left : (p : ℕ) (m : Moment M) (f : RunFault) → p < boards → turn_fault boards records p m ≡ Some f
         → (turn_limit ≤ m.tally.turns) ⊎ (length m.copies < length records)
     none_left p m f l some = elim (cases_lt m.tally.turns turn_limit) [
@@ -93,9 +93,10 @@ module _ {M : Type 0} (A : Algebra M) (law : Lawful A) (boards : ℕ) (records :
       ]
     ]
 
-    refused_told : (m m' : Moment M) (f : RunFault) → length m'.copies ≡ length m.copies
-        → CircleAnswers A boards records edges m m' (Err f) → Circled A boards records edges m m' (Err f)
-    refused_told m m' f same (p, l, turned, some) = (
+    pub circle_told : (m m' : Moment M) (r : Result (Unit {0}) RunFault) → length m'.copies ≡ length m.copies
+        → CircleAnswers A boards records edges m m' r → Circled A boards records edges m m' r
+    circle_told m m' (Ok _) same turned = (turned.turns, turned.carried)
+    circle_told m m' (Err f) same (p, l, turned, some) = (
       elim (none_left p m' f l some) [
         | inl late ↦ inl (omega (arith, turned.turns))
         | inr short ↦ inr (omega arith)
@@ -103,22 +104,11 @@ module _ {M : Type 0} (A : Algebra M) (law : Lawful A) (boards : ℕ) (records :
       λ s laid. (range_with_len 0 p, turned.carried s laid),
     )
 
-    -- the next board's turn is refused
-    pub next_board_refused : (m m₁ m₂ : Moment M) (p : ℕ) (f : RunFault) → p < boards
-        → length m₂.copies ≡ length m.copies → Below p m m₁
-        → TurnAnswers A boards records edges p m₁ m₂ (Err f)
-        → Circled A boards records edges m m₂ (Err f) × CircleAnswers A boards records edges m m₂ (Err f)
-    next_board_refused m m₁ m₂ p f l same_length so_far (against, same) =
-        let exact : CircleAnswers A boards records edges m m₂ (Err f)
-        = subst (λ (x : Moment M). CircleAnswers A boards records edges m x (Err f)) (sym same)
-        (p, l, so_far, against) in
-        (refused_told m m₂ f same_length exact, exact)
-
-    -- the next circle is refused
-    pub next_circle_refused : (limit : ℕ) (m m₁ m' : Moment M) (k : ℕ) (f : RunFault) → k < limit
-        → length m'.copies ≡ length m.copies → Circles m k m₁ → CircleAnswers A boards records edges m₁ m' (Err f)
-        → Settles A boards records edges limit m m' (Err f)
-    next_circle_refused limit m m₁ m' k f few same rounds (p, l, turned, some) = (
+    pub settle_told : (limit : ℕ) (m m' : Moment M) (r : Result Bool RunFault) → length m'.copies ≡ length m.copies
+        → SettleAnswers A boards records edges limit m m' r → Settles A boards records edges limit m m' r
+    settle_told limit m m' (Ok settled) same (decides, (k, few, all, rounds)) =
+        (decides, λ s laid. (k, few, all, circles_carry m m' k rounds s laid))
+    settle_told limit m m' (Err f) same (k, few, (m₁, rounds, un, (p, l, turned, some))) = (
       elim (none_left p m' f l some) [
         | inl late ↦
             let most : (k + 1) * boards ≤ limit * boards = mul-le-mul_right boards (omega arith) in
@@ -131,3 +121,21 @@ module _ {M : Type 0} (A : Algebra M) (law : Lawful A) (boards : ℕ) (records :
             (circles_carry m m₁ k rounds s laid) (turned.carried s laid),
       ),
     )
+
+    -- the next board's turn is refused
+    pub next_board_refused : (m m₁ m₂ : Moment M) (p : ℕ) (f : RunFault) → p < boards
+        → length m₂.copies ≡ length m.copies → Below p m m₁
+        → TurnAnswers A boards records edges p m₁ m₂ (Err f)
+        → Circled A boards records edges m m₂ (Err f) × CircleAnswers A boards records edges m m₂ (Err f)
+    next_board_refused m m₁ m₂ p f l same_length so_far (against, same) =
+        let exact : CircleAnswers A boards records edges m m₂ (Err f)
+        = subst (λ (x : Moment M). CircleAnswers A boards records edges m x (Err f)) (sym same)
+        (p, l, so_far, against) in
+        (circle_told m m₂ (Err f) same_length exact, exact)
+
+    -- the next circle is refused
+    pub next_circle_refused : (limit : ℕ) (m m₁ m₂ : Moment M) (k : ℕ) (f : RunFault) → k < limit
+        → length m₂.copies ≡ length m.copies → Circles m k m₁ → not (unsettled boards edges m₁) ≡ false
+        → CircleAnswers A boards records edges m₁ m₂ (Err f) → Settles A boards records edges limit m m₂ (Err f)
+    next_circle_refused limit m m₁ m₂ k f few same rounds more refused =
+        settle_told limit m m₂ (Err f) same (k, few, (m₁, rounds, unsettled_from _ more, refused))

@@ -10,6 +10,7 @@ use protocol::fault::RunFault;
 use protocol::table::LinkTable;
 
 // One turn of each board, ascending.
+// Kept: these five parameters, since a turn is a method on the tally that takes the other four.
 pub fn circle<E: Element, D: Medium>(
     turning: &mut Turning,
     plan: &PlanView,
@@ -28,6 +29,7 @@ pub fn circle<E: Element, D: Medium>(
         (moment turning.new.tally table.new.links copies.new
         (D.Medium.lanes medium.new)) result }
 {
+    // Kept: a `for`, since the closure of `try_for_each` would capture all five.
     for p in 0..plan.boards() {
         turning.turn(plan, table, medium, copies, p)?;
     }

@@ -15,6 +15,7 @@ use std::marker::PhantomData;
 
 // The own sums of all boards, by board and then vertex. They stand as words, whose size is known, as that of a
 // type parameter is not.
+// Kept: an array, since fixed memory without a heap is this crate's rule.
 #[derive(Drop)]
 struct OwnSums<E: Element> {
     words: [Words; 8192],
@@ -46,6 +47,7 @@ impl<E: Element> OwnSums<E> {
     }
 
     // Joins what cell c contributes.
+    // Kept: counted loops here and below, since a view reads cells and corners by number and has no slice of them.
     fn add_cell(&mut self, scene: &SceneView, c: usize)
         requires cell { c < length (viewed scene.now).cells }
         requires before { HoldsSums E.Element.algebra (take c (viewed scene.now).cells) self.old.words }
@@ -56,13 +58,20 @@ impl<E: Element> OwnSums<E> {
         }
     }
 
+    // The sum of no contributions.
+    fn no_sum() -> Words
+        ensures { result ≡ E.Element.algebra.pack E.Element.algebra.zero }
+    {
+        E::zero().pack()
+    }
+
     // The own sums of all boards.
     fn of_scene(scene: &SceneView) -> OwnSums<E>
         ensures { (p v : ℕ) → p < 8 → v < 1024
             → sum_at E.Element.algebra result.words p v ≡ own_sum E.Element.algebra (viewed scene.now) p v }
     {
         let mut sums = OwnSums {
-            words: [E::zero().pack(); 8192],
+            words: [Self::no_sum(); 8192],
             element: PhantomData,
         };
         for c in 0..scene.cells() {
@@ -88,6 +97,7 @@ pub(crate) fn set_own_sums<E: Element>(scene: &SceneView, plan: &PlanView, copie
         ++ drop (length plan.now.copies.now) copies.old }
 {
     let sums = OwnSums::of_scene(scene);
+    // Kept: written by index, since of what `iter_mut` lends a proof knows only the length.
     for (n, record) in plan.copies().iter().enumerate() {
         copies[n] = sums.of_copy(*record);
     }

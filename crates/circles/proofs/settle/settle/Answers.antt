@@ -20,7 +20,7 @@ returns-in_err-circle-clause-told g c =
     let failed = err_from_is_err_and c.from_residual.result c.from_residual.ensures.1 in
     rw failed.1 (next_circle_refused g.E.Element.algebra g.met.E.Element.lawful plan.boards
     plan.copies.now plan.edges.now c.args.limit _ _ _ c.loop.counter _ (omega arith) same c.loop.invariant.rounds
-    c.in_err-circle.ensures.exact)
+    (sym c.all_settled.ensures ∙ c.if-all_settled.false) c.in_err-circle.ensures.exact)
 
 pub loop-preserved : goal.loop-preserved
 loop-preserved g c =

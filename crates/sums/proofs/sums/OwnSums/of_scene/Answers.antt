@@ -6,7 +6,7 @@ use Rattle.sums.proofs.sums.OwnSums.of_scene.Goals as goal
 
 pub loop-c-init : goal.loop-c-init
 loop-c-init g c =
-    rw (c.pack.ensures, c.zero.ensures) (none_held g.E.Element.algebra g.met.E.Element.lawful)
+    rw c.no_sum.ensures (none_held g.E.Element.algebra g.met.E.Element.lawful)
 
 pub returns : goal.returns
 returns g c =
