@@ -1,5 +1,5 @@
 // The two ways out of a run.
-ghost use Rattle.std.specs.Prelude.{◌≡◌, ℕ, ◌<◌, ◌≤◌, not, Some, None, Ok, Err, nat_lt};
+ghost use Rattle.std.specs.Prelude.{◌≡◌, ℕ, ◌<◌, ◌≤◌, not, Ok, Err, nat_lt, MatchOption};
 ghost use Rattle.plan.specs.Links.{shape};
 ghost use Rattle.protocol.specs.Books.{lowest_unsettled};
 ghost use Rattle.protocol.specs.Runs.{accepted_in};
@@ -13,19 +13,12 @@ use protocol::tally::{Report, Tally};
 
 // The lowest board that is not settled, if there is one.
 fn first_unsettled(plan: &PlanView, table: &LinkTable) -> Option<usize>
-    ensures { elim result [
-      | Some p ↦ (p < plan.now.boards) × (p ≡ lowest_unsettled
-          (shape plan.now.boards plan.now.edges.now) (accepted_in table.now.links))
-      | None ↦ lowest_unsettled (shape plan.now.boards plan.now.edges.now)
-          (accepted_in table.now.links) ≡ plan.now.boards
-    ] }
+    ensures { MatchOption result
+        (lowest_unsettled (shape plan.now.boards plan.now.edges.now) (accepted_in table.now.links) ≡ plan.now.boards)
+        (λ p. (p < plan.now.boards)
+        × (p ≡ lowest_unsettled (shape plan.now.boards plan.now.edges.now) (accepted_in table.now.links))) }
 {
-    for p in 0..plan.boards() {
-        if let Report::Awaits { .. } = report_on(plan, table, p) {
-            return Some(p);
-        }
-    }
-    None
+    (0..plan.boards()).find(|&p| report_on(plan, table, p) != Report::Settled)
 }
 
 impl Turning {
@@ -54,6 +47,8 @@ impl Turning {
         Ok((Ended { tally }, tally))
     }
 
+    // Kept: a run is left in three ways, here and below, each by a name of its own; code that is generic over the states
+    // could let them go unseen.
     // Gives the run up, whatever its state; answers its tally.
     pub fn abandon(self) -> Tally
         ensures { result ≡ self.tally }

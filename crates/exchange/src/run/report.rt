@@ -26,8 +26,8 @@ pub(crate) fn report_on(plan: &PlanView, table: &LinkTable, p: usize) -> Report
     ensures { result ≡ report_by (shape plan.now.boards plan.now.edges.now)
         (accepted_in table.now.links) p }
 {
-    let boards = plan.boards();
-    for q in 0..boards {
+    // Kept: a `for`, since how many items are lacking is told with the board that is found.
+    for q in 0..plan.boards() {
         let items = lacking(plan, table, p, q);
         if items > 0 {
             return Report::Awaits { board: q, items };

@@ -22,6 +22,7 @@ fn check_idle<D: Medium>(medium: &D) -> Result<(), RunFault>
       | Err f ↦ WaitingFault (D.Medium.lanes medium.now) f
     ] }
 {
+    // Kept: a `for` over lane numbers, since a medium has no slice of lanes, and the lane found is told.
     for k in 0..64usize {
         let (from, to) = (k / 8, k % 8);
         if medium.waiting(from, to) > 0 {

@@ -22,7 +22,7 @@ returns-then-items-gt0 c =
     let P : Shape = shape c.args.plan.now.boards c.args.plan.now.edges.now in
     let count : ℕ → ℕ → ℕ = accepted_in c.args.table.now.links in
     let q : ℕ = c.loop-q.q in
-    let below : q < P.boards = omega (arith, c.boards-boards.ensures) in
+    let below : q < P.boards = omega (arith, c.boards-q-end.ensures) in
     found P count c.args.p q c.lacking-items.result
     (lowest_found (λ r. ltb 0 (lacks P count c.args.p r)) q c.loop-q.invariant
     (lt-ltb 0 (lacks P count c.args.p q) (omega (arith, c.lacking-items.ensures))) P.boards below)
@@ -39,6 +39,6 @@ pub returns : goal.returns
 returns c =
     let P : Shape = shape c.args.plan.now.boards c.args.plan.now.edges.now in
     let count : ℕ → ℕ → ℕ = accepted_in c.args.table.now.links in
-    let end : c.loop-q.q ≡ P.boards = omega (arith, c.boards-boards.ensures) in
+    let end : c.loop-q.q ≡ P.boards = omega (arith, c.boards-q-end.ensures) in
     none P count c.args.p
     (ap (lowest (λ r. ltb 0 (lacks P count c.args.p r))) (sym end) ∙ c.loop-q.invariant ∙ end)
