@@ -1,23 +1,25 @@
 // Where each link's edges begin.
-ghost use Rattle.std.specs.Prelude.{◌≡◌};
-ghost use Rattle.std.specs.List.Sorted.{IsNonDecreasingBy};
-ghost use Rattle.plan.specs.Starts.{link_of, edges_before, Starts};
+ghost use Rattle.std.specs.Prelude.{◌≡◌, true};
+ghost use Rattle.plan.specs.Sound.{sound_plan};
+ghost use Rattle.plan.specs.Starts.{edges_before, Starts};
 
-use crate::records::Edge;
+use crate::rules::Records;
 use std::array;
 
-// How many of the edges are of links below this one.
-fn edges_before(edges: &[Edge], link: usize) -> usize
-    requires { IsNonDecreasingBy link_of edges.now }
-    ensures { result ≡ edges_before edges.now link }
-{
-    edges.partition_point(|edge| edge.link() < link)
-}
+impl Records<'_> {
+    // How many of the edges are of links below this one; in a plan they stand by link.
+    fn edges_before(&self, link: usize) -> usize
+        requires { sound_plan self.now.boards self.now.copies.now self.now.edges.now ≡ true }
+        ensures { result ≡ edges_before self.now.edges.now link }
+    {
+        self.edges.partition_point(|edge| edge.link() < link)
+    }
 
-// For each link, how many edges come before it.
-pub(crate) fn link_starts(edges: &[Edge]) -> [usize; 65]
-    requires { IsNonDecreasingBy link_of edges.now }
-    ensures { Starts result edges.now }
-{
-    array::from_fn(|link| edges_before(edges, link))
+    // For each link, how many edges come before it.
+    pub(crate) fn link_starts(&self) -> [usize; 65]
+        requires { sound_plan self.now.boards self.now.copies.now self.now.edges.now ≡ true }
+        ensures { Starts result self.now.edges.now }
+    {
+        array::from_fn(|link| self.edges_before(link))
+    }
 }

@@ -1,5 +1,5 @@
 // The records of a plan.
-ghost use Rattle.std.specs.Prelude.{◌≡◌};
+ghost use Rattle.std.specs.Prelude.{◌≡◌, nat_lt};
 ghost use Rattle.plan.specs.Starts.{link_of};
 
 // Board `board` keeps a copy of vertex `vertex`. Copies stand by board, then vertex.
@@ -17,6 +17,15 @@ pub struct Edge {
     pub vertex: u16,
     pub leaf: u16,
     pub root: u16,
+}
+
+impl CopyRecord {
+    // Whether it is of a board below `p`.
+    pub(crate) fn is_below(&self, p: usize) -> bool
+        ensures { result ≡ nat_lt self.now.board p }
+    {
+        usize::from(self.board) < p
+    }
 }
 
 impl Edge {

@@ -5,7 +5,6 @@ ghost use Rattle.plan.specs.Sound.{sound_plan};
 
 use super::PlanView;
 use crate::fault::PlanFault;
-use crate::links::link_starts;
 use crate::records::{CopyRecord, Edge};
 use crate::rules::Records;
 
@@ -49,7 +48,7 @@ impl<'a> PlanView<'a> {
             boards,
             copies,
             edges,
-            starts: link_starts(edges),
+            starts: records.link_starts(),
         };
         Ok(())
     }

@@ -8,15 +8,22 @@ use crate::parts::Part;
 use crate::records::Edge;
 
 impl<'a> PlanView<'a> {
-    // The edges from leaf board `p` to root board `q`: from the start of their link to that of the next.
-    // None where no plan has such boards.
+    // The edges from leaf board `p` to root board `q`; none where no plan has such boards.
     pub fn edges_between(&self, p: usize, q: usize) -> &'a [Edge]
         ensures { result.now ≡ edges_between self.now.edges.now p q }
     {
         if p >= 8 || q >= 8 {
             return &[];
         }
-        let link = 8 * p + q;
+        self.on_link(8 * p + q)
+    }
+
+    // A link's edges: from its start to the next.
+    fn on_link(&self, link: usize) -> &'a [Edge]
+        requires { link < 64 }
+        ensures { (p q : ℕ) → q < 8 → link ≡ 8 * p + q
+            → result.now ≡ edges_between self.now.edges.now p q }
+    {
         let edges = self.edges;
         &edges[self.starts[link]..self.starts[link + 1]]
     }
@@ -30,7 +37,7 @@ impl<'a> PlanView<'a> {
         ensures within { result.from + result.count ≤ length self.now.copies.now }
     {
         let copies = self.copies;
-        let from = copies.partition_point(|copy| usize::from(copy.board) < p);
+        let from = copies.partition_point(|copy| copy.is_below(p));
         let end = copies.partition_point(|copy| usize::from(copy.board) <= p);
         Part {
             from,
