@@ -1,10 +1,9 @@
 -- What one board more, to which a put was made or not, adds to the puts so far.
-use Rattle.std.proofs.Common.{◌≡◌, ℕ, ◌+◌, Bool, true, false, ◌≢◌, eqb, refl, add-one, add-zero, rules, sym}
-use mir.Val.{bool_byte}
+use Rattle.std.proofs.Common.{◌≡◌, ℕ, ◌+◌, Bool, true, false, cond, ◌≢◌, eqb, refl, add-one, add-zero, rules, sym}
 use Rattle.medium.specs.declared.frame.Frame.{Frame}
 use Rattle.medium.specs.Lanes.{Lanes, appended}
 use Rattle.protocol.specs.Steps.{Sent}
-use Rattle.protocol.proofs.Sending.{put_speaks, sent_itself, sent_next}
+use Rattle.protocol.proofs.Sending.{byte_cond, put_speaks, sent_itself, sent_next}
 
 module _ (p : ℕ) (due : ℕ → Bool) (frame : ℕ → Frame) (lanes : Lanes) (q : ℕ) (lanes' : Lanes) (made lost : ℕ)
     (v : Sent p due frame lanes q lanes' made lost) where
@@ -15,10 +14,11 @@ module _ (p : ℕ) (due : ℕ → Bool) (frame : ℕ → Frame) (lanes : Lanes) 
   module _ (apart : q ≢ p) (lanes'' : Lanes) where
     -- a put that was due, and left n frames
     pub one_put : (n : ℕ) → due q ≡ true → lanes'' ≡ appended lanes' p q (frame q) n
-        → Sent p due frame lanes (q + 1) lanes'' (made + 1) (lost + bool_byte (eqb n 0))
-    one_put n is after = sent_next p due frame lanes q lanes' made lost v lanes'' true (eqb n 0)
+        → Sent p due frame lanes (q + 1) lanes'' (made + 1) (lost + cond (eqb n 0) 1 0)
+    one_put n is after = rw (byte_cond (eqb n 0)) at (sent_next p due frame lanes q lanes' made lost v lanes''
+        true (eqb n 0)
         (λ e. absurd (apart e))
-        (λ d. put_speaks p q (frame q) (frame q) n lanes' lanes'' (due q) (eqb n 0) after refl refl is)
+        (λ d. put_speaks p q (frame q) (frame q) n lanes' lanes'' (due q) (eqb n 0) after refl refl is))
 
     -- none was due
     pub no_put : due q ≡ false → lanes'' ≡ lanes' → Sent p due frame lanes (q + 1) lanes'' made lost

@@ -1,5 +1,5 @@
 // The second half of a turn: putting items and replies.
-ghost use Rattle.std.specs.Prelude.{◌≡◌, ◌<◌, ◌≤◌, ◌||◌, true, false, length, cond, nat_le, Some, None};
+ghost use Rattle.std.specs.Prelude.{◌≡◌, ◌+◌, ◌<◌, ◌≤◌, ◌||◌, ◌==◌, true, false, length, cond, nat_le, Some, None};
 ghost use Rattle.medium.specs.Lanes.{appended};
 ghost use Rattle.plan.specs.Links.{edges_between};
 ghost use Rattle.protocol.specs.Runs.{accepted_in};
@@ -87,6 +87,20 @@ pub(crate) struct Puts {
     ghost within: { lost ≤ made },
 }
 
+impl Puts {
+    // One put more, which left so many frames.
+    fn add(&mut self, left: usize)
+        requires { self.old.made < 8 }
+        ensures made { self.new.made ≡ self.old.made + 1 }
+        ensures lost { self.new.lost ≡ self.old.lost + cond (left == 0) 1 0 }
+    {
+        self.made += 1;
+        if left == 0 {
+            self.lost += 1;
+        }
+    }
+}
+
 impl BoardView<'_> {
     // Whether the board has accepted all that rises to it.
     fn has_gathered(&self, table: &LinkTable) -> bool
@@ -115,8 +129,7 @@ impl BoardView<'_> {
         ensures few { result.made ≤ 8 }
     {
         let gathered = self.has_gathered(table);
-        let mut made: usize = 0;
-        let mut lost: usize = 0;
+        let mut puts = Puts { made: 0, lost: 0 };
         for q in 0..self.plan.boards() {
             if q == self.board {
                 continue;
@@ -131,10 +144,9 @@ impl BoardView<'_> {
                 copies,
             };
             if let Some(left) = sender.speak(medium) {
-                made += 1;
-                lost += usize::from(left == 0);
+                puts.add(left);
             }
         }
-        Puts { made, lost }
+        puts
     }
 }

@@ -1,7 +1,6 @@
 -- One board more, and then all boards.
-use Rattle.std.proofs.Common.{◌≡◌, eqb, arith}
+use Rattle.std.proofs.Common.{◌≡◌, arith}
 use Rattle.protocol.specs.Steps.{due, due_frame}
-use Rattle.protocol.proofs.Lanes.{byte_at_most_one}
 use Rattle.turns.proofs.Putting.{itself, one_put, no_put}
 use Rattle.turns.proofs.board.BoardView.send.Goals as goal
 use Rattle.turns.proofs.board.BoardView.send.Goals.{in-Some, in_default}
@@ -9,7 +8,7 @@ use Rattle.turns.proofs.board.BoardView.send.Goals.{in-Some, in_default}
 pub loop-q-preserved-then-q-self : goal.loop-q-preserved-then-q-self
 loop-q-preserved-then-q-self g c = record {
   so_far = itself _ _ _ _ c.loop-q.q _ _ _ c.loop-q.invariant.so_far c.if-q-self.true;
-  few = (omega arith, omega arith);
+  few = omega arith;
 }
 
 pub loop-q-preserved : goal.loop-q-preserved
@@ -36,10 +35,10 @@ loop-q-preserved g c =
             l.downs,
             c.has_gathered-gathered.ensures,
           ) at w.in-Some.ensures in
-          rw (w.made-is, w.lost-is, w.from-lost.ensures) record {
-            so_far = one_put p owed frame (lanes c.args.medium.now) q (lanes c.loop-q.medium) c.loop-q.made
-                c.loop-q.lost v.so_far c.if-q-self.false (lanes c.speak.new.medium) w.in-Some.left is after;
-            few = (omega (arith, byte_at_most_one (eqb w.in-Some.left 0)), omega arith);
+          rw (w.puts-is, w.add.ensures.made, w.add.ensures.lost) record {
+            so_far = one_put p owed frame (lanes c.args.medium.now) q (lanes c.loop-q.medium) c.loop-q.puts.made
+                c.loop-q.puts.lost v.so_far c.if-q-self.false (lanes c.speak.new.medium) w.in-Some.left is after;
+            few = omega arith;
           }
       | in_default w ↦
           let (is, after) =
@@ -51,10 +50,10 @@ loop-q-preserved g c =
             l.downs,
             c.has_gathered-gathered.ensures,
           ) at w.in_default.ensures in
-          rw (w.made-is, w.lost-is) record {
-            so_far = no_put p owed frame (lanes c.args.medium.now) q (lanes c.loop-q.medium) c.loop-q.made
-                c.loop-q.lost v.so_far c.if-q-self.false (lanes c.speak.new.medium) is after;
-            few = (omega arith, omega arith);
+          rw w.puts-is record {
+            so_far = no_put p owed frame (lanes c.args.medium.now) q (lanes c.loop-q.medium) c.loop-q.puts.made
+                c.loop-q.puts.lost v.so_far c.if-q-self.false (lanes c.speak.new.medium) is after;
+            few = omega arith;
           }
     ]
 

@@ -12,6 +12,6 @@ invariant-loop-q g l =
       so_far : Sent l.self.board (due A boards edges l.self.board l.table.links l.got)
           (due_frame A boards edges l.self.board l.table.links l.copies) (g.D.Medium.lanes l.initial.medium)
           l.q
-          (g.D.Medium.lanes l.medium) l.made l.lost;
-      few : (l.lost ≤ l.made) × (l.made ≤ l.q);
+          (g.D.Medium.lanes l.medium) l.puts.made l.puts.lost;
+      few : l.puts.made ≤ l.q;
     }
