@@ -14,7 +14,7 @@ use Rattle.element.specs.declared.words.Words.{Words}
 use Rattle.element.proofs.Joins.{join_all_push}
 use Rattle.scene.specs.Cells.{Cell, Scene, Sound}
 use Rattle.scene.specs.Read.{within, board_of, corner_of, part_of, no_cell, no_words}
-use Rattle.scene.specs.Sums.{contributions, own_sum}
+use Rattle.scene.specs.Sums.{contributions}
 use Rattle.scene.proofs.Ranges.{boards_low, corners_low}
 use Rattle.scene.proofs.Reading.{board_some, corner_some, part_some}
 use Rattle.plan.specs.declared.records.CopyRecord.{CopyRecord}
@@ -22,7 +22,7 @@ use Rattle.plan.specs.declared.view.PlanView.{PlanView}
 use Rattle.plan.specs.Links.{no_copy}
 use Rattle.plan.proofs.Plans.{boards_within, copies_below}
 use Rattle.sums.specs.Sums.{place_of, sum_at, joined_at, corner_joined, first_corners}
-use Rattle.sums.specs.Sums.{table_size, cells_sum, HoldsSums}
+use Rattle.sums.specs.Sums.{table_size, HoldsSums}
 use Rattle.sums.proofs.Contributions.{no_corners, corner_here, corner_else, all_corners}
 
 -- ---- what the scene's readers answer lies in the table
@@ -160,13 +160,6 @@ module _ {M : Type 0} (A : Algebra M) (L : Lawful A) where
     cell_step k table e h =
         subst (λ cs. HoldsSums A cs table) (sym (take_more s.cells c no_cell there))
         (cell_ended (take c s.cells) cell as_many_parts k table e h)
-
-  -- all cells are joined in
-  pub all_held : (s : Scene) (c : ℕ) (table : List Words) → length s.cells ≤ c
-      → HoldsSums A (take c s.cells) table
-      → (p v : ℕ) → p < 8 → v < 1024 → sum_at A table p v ≡ own_sum A s p v
-  all_held s c table e h p v a b =
-      h.1 p v a b ∙ ap (λ cs. cells_sum A cs p v) (take_all c s.cells e)
 
 -- ---- setting the copies
 
