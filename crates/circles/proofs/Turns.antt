@@ -125,13 +125,11 @@ module _ {M : Type 0} (A : Algebra M) (law : Lawful A) (boards : ℕ) (records :
     -- the next board's turn is refused
     pub next_board_refused : (m m₁ m₂ : Moment M) (p : ℕ) (f : RunFault) → p < boards
         → length m₂.copies ≡ length m.copies → Below p m m₁
-        → TurnAnswers A boards records edges p m₁ m₂ (Err f)
-        → Circled A boards records edges m m₂ (Err f) × CircleAnswers A boards records edges m m₂ (Err f)
+        → TurnAnswers A boards records edges p m₁ m₂ (Err f) → Circled A boards records edges m m₂ (Err f)
     next_board_refused m m₁ m₂ p f l same_length so_far (against, same) =
-        let exact : CircleAnswers A boards records edges m m₂ (Err f)
-        = subst (λ (x : Moment M). CircleAnswers A boards records edges m x (Err f)) (sym same)
-        (p, l, so_far, against) in
-        (circle_told m m₂ (Err f) same_length exact, exact)
+        circle_told m m₂ (Err f) same_length
+        (subst (λ (x : Moment M). CircleAnswers A boards records edges m x (Err f)) (sym same)
+        (p, l, so_far, against))
 
     -- the next circle is refused
     pub next_circle_refused : (limit : ℕ) (m m₁ m₂ : Moment M) (k : ℕ) (f : RunFault) → k < limit

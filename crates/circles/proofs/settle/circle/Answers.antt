@@ -10,14 +10,13 @@ loop-p-init g c =
     no_board_turned g.E.Element.algebra g.met.E.Element.lawful plan.boards plan.copies.now
     plan.edges.now _
 
-pub returns-in_err-turn : goal.returns-in_err-turn
-returns-in_err-turn g c =
+pub returns-in_err-turn-clause-told : goal.returns-in_err-turn-clause-told
+returns-in_err-turn-clause-told g c =
     let plan = c.args.plan.now in
     let same : length c.turn.new.copies ≡ length c.args.copies.now = omega arith in
-    let refused = next_board_refused g.E.Element.algebra g.met.E.Element.lawful plan.boards plan.copies.now
-    plan.edges.now _ _ _ c.loop-p.p _ (omega arith) same c.loop-p.invariant c.in_err-turn.ensures.exact in
     let failed = err_from_is_err_and c.from_residual.result c.from_residual.ensures.1 in
-    rw (failed.1, failed.2) (record { told = refused.0; exact = refused.1 })
+    rw failed.1 (next_board_refused g.E.Element.algebra g.met.E.Element.lawful plan.boards plan.copies.now
+    plan.edges.now _ _ _ c.loop-p.p _ (omega arith) same c.loop-p.invariant c.in_err-turn.ensures.exact)
 
 pub loop-p-preserved : goal.loop-p-preserved
 loop-p-preserved g c =
