@@ -13,6 +13,7 @@ use protocol::tally::{Report, Tally};
 pub struct PlanNumbers {
     pub boards: usize,
     pub overlap: usize,
+    // Kept: a number, since an enum of the three kinds would take less from callers.
     pub kind: u8,
     pub copies: usize,
     pub edges: usize,
