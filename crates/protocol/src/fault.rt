@@ -19,6 +19,7 @@ pub enum RunFault {
     Early { board: usize },
 }
 
+// Kept: a refusal is told by two numbers, and a conversion would say one.
 impl RunFault {
     // The refusal's number.
     pub fn number(&self) -> usize

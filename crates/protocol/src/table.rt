@@ -10,6 +10,7 @@ pub struct Link {
     pub j: usize,
 }
 
+// Kept: one flat array of fixed length: a turn lends one record of it after another.
 #[derive(Drop)]
 pub struct LinkTable {
     pub links: [Link; 64],

@@ -17,6 +17,7 @@ pub struct TurnCounts {
     pub lost: usize,
 }
 
+// Kept: no `Option`, whose `None` would have to mean settled.
 #[derive(Clone, Copy, PartialEq, Eq)]
 pub enum Report {
     Settled,

@@ -9,7 +9,7 @@ use plan::fault::PlanFault;
 use protocol::fault::RunFault;
 use scene::fault::SceneFault;
 
-#[derive(Clone, Copy)]
+#[derive(Clone, Copy, PartialEq, Eq)]
 pub enum Refusal {
     Scene(SceneFault),
     Lay(LayFault),

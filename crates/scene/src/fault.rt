@@ -29,6 +29,7 @@ pub(crate) struct Broken {
     pub fault: RecordFault,
 }
 
+// Kept: by hand, since no derive says in a clause what a `?` makes of it.
 impl From<Broken> for SceneFault {
     ghost from_gives = { λ b s. s ≡ record { «record» = b.number; fault = b.fault } };
 

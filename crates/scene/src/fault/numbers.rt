@@ -5,6 +5,7 @@ ghost use Rattle.scene.specs.Faults.{fault_numbers, record_numbers};
 
 use super::{RecordFault, SceneFault};
 
+// Kept: a refusal is told by two numbers, and a conversion would say one.
 impl RecordFault {
     // The refusal's number.
     pub fn number(&self) -> u8
