@@ -40,6 +40,7 @@ fn add_head(page: &mut Vec<u8>, numbers: PlanNumbers, tally: Tally) -> Result<()
 }
 
 impl<'a, E: Element> Run<'a, E> {
+    // Kept: the bound of a board's number, here and in the two below; a type for such numbers would be no plainer.
     fn report(&self, board: usize) -> Report
         requires { board < self.now.plan.now.boards }
         ensures { result ≡ told_by self.now.outcome self.now.plan.now.boards self.now.plan.now.edges.now

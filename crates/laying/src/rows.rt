@@ -18,6 +18,7 @@ pub(crate) fn passing<F: Fn(usize) -> bool>(n: usize, test: F) -> [bool; 1024]
 }
 
 // How many of the first n flags are set.
+// Kept: the bound of n here, in `passing`, `write_row` and `settle`, each for an array of its own.
 pub(crate) fn count(row: &[bool; 1024], n: usize) -> usize
     requires { n ≤ 1024 }
     ensures set { result ≡ many (flag row.now) n }

@@ -12,6 +12,7 @@ use arrayvec::ArrayVec;
 #[derive(Drop)]
 pub struct Queue {
     // The lane from p to q stands at 8 * p + q, its frames oldest first.
+    // Kept: one flat array of fixed length, without a heap.
     lanes: [ArrayVec<Frame, 8>; 64],
     ghost sized: { length lanes ≡ 64 },
     ghost few: { All (λ l. array_vec_len l ≤ 8) lanes },

@@ -7,7 +7,7 @@ use Rattle.std.proofs.lemmas.Bool.{cases_eq, eq-eqb, ne_eqb, both_ways, cond-tru
 use Rattle.medium.specs.Lanes.{Lanes, appended, same_lane}
 use Rattle.medium.specs.declared.frame.Frame.{Frame}
 use Rattle.protocol.specs.Steps.{Spoken, Sent}
-use Rattle.protocol.proofs.Lanes.{same_lane_self, byte_at_most_one}
+use Rattle.protocol.proofs.Lanes.{same_lane_self}
 use Rattle.protocol.proofs.Received.{sum_others_same}
 
 abbrev flag : Bool → ℕ
@@ -115,7 +115,3 @@ module _ (p : ℕ) (due : ℕ → Bool) (frame : ℕ → Frame) (lanes : Lanes) 
           rw (a, b, c, add-zero made, add-zero lost) (sent_itself e)
       | inr d ↦ sent_more d lanes'' m l (other d)
     ])
-
-pub lost_was_made : (m l due : Bool) (b : Bool) → m ≡ due → l ≡ (due && b) → bool_byte l ≤ bool_byte m
-lost_was_made m l true b e f = omega (arith, byte_at_most_one l, ap bool_byte e)
-lost_was_made m l false b e f = omega (arith, ap bool_byte f)

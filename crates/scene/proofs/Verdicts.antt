@@ -89,9 +89,6 @@ abbrev pub from : {F : Type 0} → (ℕ → List (Rule F)) → ℕ → ℕ → V
 from f i k = verdict (flat_map f (range_with_len i (k - i)))
 
 module _ {F : Type 0} (f : ℕ → List (Rule F)) where
-  pub from_end : (i k : ℕ) → k ≤ i → from f i k ≡ Ok tt
-  from_end i k h = let none : k - i ≡ 0 = omega arith in ap (λ n. verdict (flat_map f (range_with_len i n))) none
-
   pub from_more : (i k : ℕ) → i < k → from f i k ≡ after (verdict (f i)) (from f (i + 1) k)
   from_more i k h =
       let more : k - i ≡ suc (k - (i + 1)) = omega arith in
