@@ -1,13 +1,27 @@
 // Counting and writing the copies of a plan.
-ghost use Rattle.std.specs.Prelude.{◌≡◌, ◌≤◌, ◌++◌, length, drop};
+ghost use Rattle.std.specs.Prelude.{◌≡◌, ◌<◌, ◌≤◌, ◌++◌, length, drop};
 ghost use Rattle.laying.specs.Filled.{HasRoom, Appends};
 ghost use Rattle.laying.specs.Said.{all_copies};
-ghost use Rattle.laying.specs.Tables.{row_copies};
+ghost use Rattle.laying.specs.Rows.{only};
+ghost use Rattle.laying.specs.Tables.{copy_record, row_copies};
 
 use crate::filling::Filling;
 use crate::rows::count;
 use crate::tables::Tables;
 use plan::records::CopyRecord;
+
+// Appends board p's copy of v, if it keeps one.
+fn write_copy(kept: bool, p: u8, v: usize, out: &mut Filling<CopyRecord>)
+    requires low { v < 1024 }
+    requires room { HasRoom out.old (only kept (copy_record p v)) }
+    ensures { Appends out.old out.new (only kept (copy_record p v)) }
+{
+    let copy = CopyRecord {
+        board: p,
+        vertex: v as u16,
+    };
+    out.push_if(kept, copy);
+}
 
 // Appends the copies of board p, of the first n vertices, which it keeps where they are flagged.
 fn write_row(row: &[bool; 1024], p: u8, n: usize, out: &mut Filling<CopyRecord>)
@@ -16,11 +30,7 @@ fn write_row(row: &[bool; 1024], p: u8, n: usize, out: &mut Filling<CopyRecord>)
     ensures { Appends out.old out.new (row_copies row.now p n) }
 {
     for (v, kept) in row[..n].iter().enumerate() {
-        let copy = CopyRecord {
-            board: p,
-            vertex: v as u16,
-        };
-        out.push_if(*kept, copy);
+        write_copy(*kept, p, v, out);
     }
 }
 

@@ -3,19 +3,19 @@ use Rattle.std.proofs.Common.{◌<◌, Bool, false, sym, subst, arith}
 use Rattle.std.proofs.lemmas.List.{get_or-take, length-take-le}
 use Rattle.laying.specs.Filled.{HasRoom, Appends}
 use Rattle.laying.specs.Rows.{only}
-use Rattle.laying.specs.Tables.{copy_at}
+use Rattle.laying.specs.Tables.{copy_at, copy_record}
 use Rattle.laying.proofs.Filled.{appends_more, room_left}
 use Rattle.laying.proofs.copies.write_row.Goals as goal
 
-pub push_if-requires : goal.push_if-requires
-push_if-requires c =
+pub write_copy-requires-clause-room : goal.write_copy-requires-clause-room
+write_copy-requires-clause-room c =
     let row = c.args.row.now in
     let p = c.args.p in
     let n = c.args.n in
     let v = c.loop-v.v in
     let out = c.loop-v.out in
     let low : v < n = omega (arith, length-take-le n row (omega arith)) in
-    let P : Bool → Type 0 = λ b. HasRoom out (only b (record { board = p; vertex = v })) in
+    let P : Bool → Type 0 = λ b. HasRoom out (only b (copy_record p v)) in
     subst
     P
     (sym (get_or-take n row v false low))
@@ -28,8 +28,8 @@ loop-v-preserved c =
     let n = c.args.n in
     let v = c.loop-v.v in
     let out = c.loop-v.out in
-    let then = c.push_if.new.self in
+    let then = c.write_copy.new.out in
     let low : v < n = omega (arith, length-take-le n row (omega arith)) in
-    let P : Bool → Type 0 = λ b. Appends out then (only b (record { board = p; vertex = v })) in
-    let wrote = subst P (get_or-take n row v false low) c.push_if.ensures in
+    let P : Bool → Type 0 = λ b. Appends out then (only b (copy_record p v)) in
+    let wrote = subst P (get_or-take n row v false low) c.write_copy.ensures in
     appends_more (copy_at row p) v n c.args.out.now out low c.requires.room then c.loop-v.invariant wrote
