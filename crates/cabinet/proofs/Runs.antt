@@ -1,10 +1,8 @@
 -- A run that is listed is one that circles led to from a fresh start.
 use Rattle.std.proofs.Common.{◌≡◌, ℕ, ◌+◌, ◌*◌, ◌/◌, ◌%◌, ◌<◌, ◌≤◌, Bool, not, List, [], ◌++◌, length, Some, None, Ok}
-use Rattle.std.proofs.Common.{Err, Result, drop, sym, refl, ap, ◌∙◌, subst, inl, inr, le_trans, mul-le-mul_right}
+use Rattle.std.proofs.Common.{Err, Result, refl, ap, ◌∙◌, subst, inl, inr, le_trans, mul-le-mul_right}
 use Rattle.std.proofs.Common.{add-mul}
 use Rattle.std.proofs.Common.{mul-le-mul_left, arith}
-use Rattle.std.proofs.Math.Seq.{drop-append_seam}
-use Rattle.std.proofs.lemmas.List.{length-map}
 use Rattle.std.proofs.lemmas.Bool.{cases_lt, eq-eqb, le-leb, lt-ltb}
 use Rattle.element.specs.Algebra.{Algebra, Lawful}
 use Rattle.medium.specs.Lanes.{Lanes}
@@ -12,22 +10,17 @@ use Rattle.scene.specs.Cells.{Scene}
 use Rattle.plan.specs.declared.records.CopyRecord.{CopyRecord}
 use Rattle.plan.specs.declared.records.Edge.{Edge}
 use Rattle.forest.specs.Forest.{laid_copies, laid_edges}
-use Rattle.plan.specs.Links.{Shape}
-use Rattle.protocol.specs.Books.{blank, report_by, lowest_unsettled}
+use Rattle.protocol.specs.Books.{blank}
 use Rattle.protocol.specs.Faults.{turn_limit}
 use Rattle.protocol.specs.Runs.{Moment}
 use Rattle.protocol.specs.declared.fault.RunFault.{RunFault}
 use Rattle.protocol.specs.declared.fault.RunFault.TheVariants.{Waiting}
 use Rattle.protocol.specs.declared.table.Link.{Link}
-use Rattle.protocol.specs.declared.tally.Report.TheVariants.{Settled}
-use Rattle.sums.specs.Sums.{loaded_copies}
 use Rattle.exchange.specs.Calls.{FirstWaiting, IdleBefore, turn_fault}
-use Rattle.exchange.specs.Going.{LaidPlan, Kept, OwnSums, BeginAnswers}
+use Rattle.exchange.specs.Going.{LaidPlan, Kept, BeginAnswers}
 use Rattle.exchange.specs.Loading.{load_fault}
 use Rattle.exchange.specs.declared.run.Turning.{Turning}
 use Rattle.exchange.proofs.Over.{not_both}
-use Rattle.exchange.proofs.Promises.{own_sums_from_load}
-use Rattle.exchange.proofs.Shown.{all_reported}
 use Rattle.listing.specs.declared.lines.PlanNumbers.{PlanNumbers}
 use Rattle.circles.specs.Circles.{SettleAnswers}
 use Rattle.circles.proofs.Turns.{circles_carry, circles_turns}
@@ -49,23 +42,6 @@ one_lane_is_first lanes j k v w = elim (cases_lt j k) [
     | inr n ↦ omega arith
   ]
 ]
-
--- ---- reports and loading
-
--- no board is the lowest that is not settled: all are
-pub all_reported_settled : (P : Shape) (count : ℕ → ℕ → ℕ) → lowest_unsettled P count ≡ P.boards
-    → (p : ℕ) → p < P.boards → Settled ≡ report_by P count p
-all_reported_settled P count e p l = sym (all_reported P count (omega arith) p l)
-
--- loading a laid plan sets each copy to its board's own sum
-pub loading_sets_own_sums : {M : Type 0} (A : Algebra M) (s : Scene) (boards : ℕ) (records : List CopyRecord)
-    (edges : List Edge) → LaidPlan s boards records edges → (rest memory : List M)
-    → memory ≡ loaded_copies A s records ++ rest → OwnSums A s memory
-loading_sets_own_sums A s boards records edges plan rest memory e =
-    let sums = loaded_copies A s records in
-    let behind : drop (length records) (sums ++ rest) ≡ rest =
-    ap (λ n. drop n (sums ++ rest)) (sym (length-map records _)) ∙ drop-append_seam sums rest in
-    own_sums_from_load A s records (sums ++ rest) memory plan.same_copies (e ∙ ap (λ r. sums ++ r) (sym behind))
 
 -- ---- the run
 

@@ -1,5 +1,5 @@
 -- What a page tells, by what preparing the scene answered.
-use Rattle.std.proofs.Common.{◌≡◌, ℕ, ◌-◌, ◌≤◌, true, false, cond, ◌&&◌, List, [], ◌∷◌, ◌++◌, length, take, drop, Ok}
+use Rattle.std.proofs.Common.{◌≡◌, ℕ, ◌≤◌, true, false, cond, ◌&&◌, List, [], ◌∷◌, ◌++◌, length, take, drop, Ok}
 use Rattle.std.proofs.Common.{Err, sym, refl, ap, ◌∙◌, subst, arith, Bor}
 use Rattle.std.proofs.lemmas.List.{take_at}
 use Rattle.std.proofs.lemmas.Bool.{both_ways}
@@ -47,12 +47,6 @@ laid_in_front s s' n cs cs' es es' ok same laid' =
       same_copies = front n.copies (laid_copies s) cs' (drop n.copies cs) laid.copy_count laid.copies_laid;
       same_edges = front n.edges (laid_edges s) es' (drop n.edges es) laid.edge_count laid.edges_laid;
     }
-
-pub laid_within : (s : Scene) (n : LaidCounts) (cs cs' : List CopyRecord) (es es' : List Edge)
-    → Laid s n cs cs' es es' → length (take n.copies cs') ≤ length cs
-laid_within s n cs cs' es es' laid =
-    let e = front n.copies (laid_copies s) cs' (drop n.copies cs) laid.copy_count laid.copies_laid in
-    omega (arith, ap length e, laid.copy_room)
 
 no_fault : {F : Type 0} (rs : List (Rule F)) → all_hold rs ≡ true → verdict rs ≡ Ok tt
 no_fault [] e = refl

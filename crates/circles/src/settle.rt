@@ -10,7 +10,7 @@ use protocol::fault::RunFault;
 use protocol::table::LinkTable;
 
 // One turn of each board, ascending.
-// Kept: these five parameters, since a turn is a method on the tally that takes the other four.
+// Kept: these five parameters, as callers and clauses have them.
 pub fn circle<E: Element, D: Medium>(
     turning: &mut Turning,
     plan: &PlanView,

@@ -3,6 +3,7 @@ ghost use Rattle.std.specs.Prelude.{◌≡◌, ◌==◌};
 
 use crate::element::Element;
 
+// Kept: any number may be asked of, since other types of elements may have kinds of their own.
 pub fn is_kind_of<E: Element>(kind: u8) -> bool
     ensures { result ≡ (kind == E.Element.algebra.kind) }
 {

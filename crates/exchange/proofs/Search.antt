@@ -1,14 +1,10 @@
 -- A search for the lowest number that passes, from 0 up.
-use Rattle.std.proofs.Common.{◌≡◌, ℕ, zero, suc, ◌+◌, ◌<◌, ◌≤◌, Bool, true, false, Some, None, Option, sym, refl, ap, ◌∙◌, inl, inr}
-use Rattle.std.proofs.Common.{add-one, arith}
+use Rattle.std.proofs.Common.{◌≡◌, ℕ, zero, suc, ◌<◌, ◌≤◌, Bool, true, false, Some, None, Option, sym, refl, ap, ◌∙◌}
+use Rattle.std.proofs.Common.{inl, inr}
+use Rattle.std.proofs.Common.{arith}
 use Rattle.std.specs.Option.{MatchOption}
 use Rattle.std.proofs.lemmas.Bool.{cases_eq, lt-ltb, le-ltb}
 use Rattle.forest.specs.Forest.{lowest}
-
--- none below k, nor k itself
-pub lowest_not_yet : (t : ℕ → Bool) (k : ℕ) → lowest t k ≡ k → t k ≡ false → lowest t (k + 1) ≡ k + 1
-lowest_not_yet t k none fails =
-    ap (lowest t) (add-one k) ∙ rw (none, le-ltb k k (omega arith), fails) (sym (add-one k))
 
 here : (t : ℕ → Bool) (k : ℕ) → lowest t k ≡ k → t k ≡ true → lowest t (suc k) ≡ k
 here t k none passes = rw (none, le-ltb k k (omega arith), passes) refl

@@ -39,10 +39,6 @@ module _ {M : Type 0} (A : Algebra M) (boards : ℕ) (records : List CopyRecord)
     | inr m ↦ absurd (both_ways _ more (and_from _ _ (lt-ltb p boards l) (le-leb turn_limit tally.turns m)))
   ]
 
-  pub turn_is_left : (n : TurnCounts)
-      → TurnTaken A boards records edges p (before no_tally) (after no_tally) (Ok n) → tally.turns < turn_limit
-  turn_is_left n taken = turns_left (nothing_against boards records (length copies) p taken.0).0
-
   pub taken_is_accepted : (tally' : Tally) (n : TurnCounts) → tally' ≡ tallied n tally
       → TurnTaken A boards records edges p (before no_tally) (after no_tally) (Ok n)
       → TurnAnswers A boards records edges p (before tally) (after tally') (Ok n)

@@ -3,8 +3,7 @@ ghost use Rattle.std.specs.Prelude.{◌*◌, ◌≤◌};
 
 use protocol::tally::Tally;
 
-// Kept: plan, link table, medium and copies are parameters of each call, and no struct: a turn is a method on the
-// tally that is given the other four.
+// Kept: plan, link table, medium and copies are parameters of each call, as its callers and its clauses have them.
 pub mod book;
 pub mod drive;
 mod end;

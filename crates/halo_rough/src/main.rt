@@ -8,7 +8,7 @@ use medium::script::Script;
 use std::io;
 use std::io::{Read, Write};
 
-// Kept: alike but for the medium; a function for both could promise nothing of what is read and printed.
+// Kept: alike but for the medium. Both are short, and each is a crate of its own.
 fn main(rt: HostRuntime) -> io::Result<()> {
     let mut bytes = Vec::new(rt.alloc());
     rt.stdin().read_to_end(&mut bytes)?;

@@ -15,6 +15,7 @@ pub enum Fate {
     Twice,
 }
 
+// Kept: a table by the put's number is what the rule says.
 const TABLE: [Fate; 16] = [
     Fate::Drop,
     Fate::Pass,

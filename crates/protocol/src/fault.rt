@@ -6,6 +6,7 @@ ghost use Rattle.protocol.specs.Faults.{run_numbers};
 #[derive(Clone, Copy, PartialEq, Eq)]
 pub enum RunFault {
     // the scene has elements of this kind, the copies of another
+    // Kept: its number, since other types of elements may have kinds of their own.
     Kind { kind: u8 },
     // the copies memory is too short
     Short { needed: usize },

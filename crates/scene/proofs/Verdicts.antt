@@ -67,12 +67,6 @@ module _ (b : List ℕ) where
   )
   header_passed (Err f) is h ok = let no : ⊥ = grind arith in absurd no
 
-  pub header_stopped : (r : Result Head RecordFault) → ReadsHeader b r → (e : Broken) → Err e ≡ broken 0 r
-      → Err (record { «record» = e.number; fault = e.fault }) ≡ verdict (in_record 0 (header_rules b))
-  header_stopped (Ok g) is e bad = let no : ⊥ = grind arith in absurd no
-  header_stopped (Err f) is e bad =
-      ap raised bad ∙ ap (λ v. raised (broken 0 v)) is ∙ verdict_in_record 0 (header_rules b)
-
 -- no fault is found exactly if all rules hold
 pub verdict_ok : {F : Type 0} (rs : List (Rule F)) → all_hold rs ≡ is_ok (verdict rs)
 verdict_ok [] = refl

@@ -100,8 +100,7 @@ pub fn start_over<E: Element, D: Medium>(
     let mut first = begin(scene, plan, table, medium, copies)?;
     let _ = first.turn(plan, table, medium, copies, 0);
     let _ = first.abandon();
-    let second = begin(scene, plan, table, medium, copies)?;
-    Ok(second)
+    begin(scene, plan, table, medium, copies)
 }
 
 // A run over a worn link that is given up after one turn: the plan's copies are no own sums then. Memory past them
@@ -193,6 +192,7 @@ fn show_totals<'a, E: Element>(
       | Err f ↦ Unit {0}
     ] }
 {
+    // Kept: taken apart and put together again, since the proof speaks of copies that are shown.
     let shown = ended.show(plan, copies, board)?;
     Ok(shown)
 }

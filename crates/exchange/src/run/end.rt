@@ -47,8 +47,7 @@ impl Turning {
         Ok((Ended { tally }, tally))
     }
 
-    // Kept: a run is left in three ways, here and below, each by a name of its own; code that is generic over the states
-    // could let them go unseen.
+    // Kept: three states are left by three names, here and below; generic code could let one go unseen.
     // Gives the run up, whatever its state; answers its tally.
     pub fn abandon(self) -> Tally
         ensures { result ≡ self.tally }

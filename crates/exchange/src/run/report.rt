@@ -1,5 +1,6 @@
 // What a board still lacks.
-ghost use Rattle.std.specs.Prelude.{◌≡◌, ℕ, ◌<◌, ◌≤◌, cond, Ok, Err, nat_lt};
+ghost use Rattle.std.specs.Prelude.{◌≡◌, ◌<◌, cond, Ok, Err, nat_lt, MatchOption};
+ghost use Rattle.forest.specs.Forest.{lowest};
 ghost use Rattle.plan.specs.Links.{shape};
 ghost use Rattle.protocol.specs.Books.{lacks, report_by};
 ghost use Rattle.protocol.specs.Runs.{accepted_in};
@@ -20,20 +21,32 @@ fn lacking(plan: &PlanView, table: &LinkTable, p: usize, q: usize) -> usize
     items.saturating_sub(table.links[8 * q + p].j)
 }
 
-// The lowest board from which board p lacks items, and how many.
+// The lowest board from which board p lacks items, if it lacks any.
+fn awaited_board(plan: &PlanView, table: &LinkTable, p: usize) -> Option<usize>
+    requires { p < 8 }
+    ensures { MatchOption result
+        (lowest (λ q. nat_lt 0 (lacks (shape plan.now.boards plan.now.edges.now)
+        (accepted_in table.now.links) p q)) plan.now.boards ≡ plan.now.boards)
+        (λ q. (q < plan.now.boards)
+        × (q ≡ lowest (λ r. nat_lt 0 (lacks (shape plan.now.boards plan.now.edges.now)
+        (accepted_in table.now.links) p r)) plan.now.boards)) }
+{
+    (0..plan.boards()).find(|&q| lacking(plan, table, p, q) > 0)
+}
+
+// That board, and how many items.
 pub(crate) fn report_on(plan: &PlanView, table: &LinkTable, p: usize) -> Report
     requires { p < 8 }
     ensures { result ≡ report_by (shape plan.now.boards plan.now.edges.now)
         (accepted_in table.now.links) p }
 {
-    // Kept: a `for`, since how many items are lacking is told with the board that is found.
-    for q in 0..plan.boards() {
-        let items = lacking(plan, table, p, q);
-        if items > 0 {
-            return Report::Awaits { board: q, items };
-        }
+    match awaited_board(plan, table, p) {
+        Some(board) => Report::Awaits {
+            board,
+            items: lacking(plan, table, p, board),
+        },
+        None => Report::Settled,
     }
-    Report::Settled
 }
 
 impl Turning {

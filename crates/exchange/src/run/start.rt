@@ -22,14 +22,13 @@ fn check_idle<D: Medium>(medium: &D) -> Result<(), RunFault>
       | Err f ↦ WaitingFault (D.Medium.lanes medium.now) f
     ] }
 {
-    // Kept: a `for` over lane numbers, since a medium has no slice of lanes, and the lane found is told.
-    for k in 0..64usize {
-        let (from, to) = (k / 8, k % 8);
-        if medium.waiting(from, to) > 0 {
-            return Err(RunFault::Waiting { from, to });
-        }
+    match (0..64).find(|&k| medium.waiting(k / 8, k % 8) > 0) {
+        Some(k) => Err(RunFault::Waiting {
+            from: k / 8,
+            to: k % 8,
+        }),
+        None => Ok(()),
     }
-    Ok(())
 }
 
 // Sets every count to zero.

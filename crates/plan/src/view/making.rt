@@ -20,9 +20,7 @@ impl<'a> PlanView<'a> {
             starts: [0; 65],
         }
     }
-}
 
-impl<'a> PlanView<'a> {
     // Makes this a view of these records, or refuses and keeps what it viewed.
     pub fn take(
         &mut self,

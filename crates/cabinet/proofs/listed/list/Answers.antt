@@ -7,21 +7,16 @@ use Rattle.scene.specs.Rules.{admits}
 use Rattle.scene.specs.Views.{viewed}
 use Rattle.scene.proofs.Viewing.{view_sound}
 use Rattle.cabinet.specs.Listed.{KindTold}
-use Rattle.cabinet.proofs.Told.{laid_in_front, laid_within, run_told, refusal_told}
+use Rattle.cabinet.proofs.Told.{laid_in_front, run_told, refusal_told}
 use Rattle.cabinet.proofs.listed.list.Goals as goal
 
-pub list_plan-requires : goal.list_plan-requires
-list_plan-requires g c =
+pub list_plan-requires-clause-laid : goal.list_plan-requires-clause-laid
+list_plan-requires-clause-laid g c =
     let prepared = c.in-Ok.ensures in
     let same : viewed c.prepare.new.scene ≡ scene_of c.args.bytes.now =
     ap (λ b. scene_of b.now) prepared.0 in
-    record {
-      laid = laid_in_front (viewed c.prepare.new.scene) (scene_of c.args.bytes.now) c.in-Ok.counts _
-          c.prepare.new.copies _ c.prepare.new.edges (view_sound c.prepare.new.scene) same
-          prepared.1;
-      room = laid_within (scene_of c.args.bytes.now) c.in-Ok.counts _ c.prepare.new.copies _
-          c.prepare.new.edges prepared.1;
-    }
+    laid_in_front (viewed c.prepare.new.scene) (scene_of c.args.bytes.now) c.in-Ok.counts _
+    c.prepare.new.copies _ c.prepare.new.edges (view_sound c.prepare.new.scene) same prepared.1
 
 pub returns-in-Ok : goal.returns-in-Ok
 returns-in-Ok g c =

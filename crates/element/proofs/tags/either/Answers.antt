@@ -3,5 +3,5 @@ use Rattle.std.proofs.Common.{rules}
 use Rattle.element.specs.Bitwise.{or_bit}
 use Rattle.element.proofs.tags.either.Goals as goal
 
-pub returns : goal.returns
-returns c = search (rules, or_bit)
+pub returns-clause-bits : goal.returns-clause-bits
+returns-clause-bits c = search (rules, or_bit)

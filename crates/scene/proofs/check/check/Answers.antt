@@ -6,15 +6,16 @@ use Rattle.scene.proofs.Verdicts.{verdict_ok}
 use Rattle.scene.proofs.Bytewise.{accepted, read_back}
 use Rattle.scene.proofs.check.check.Goals as goal
 
-pub returns : goal.returns
-returns c =
+pub returns-clause-exact : goal.returns-clause-exact
+returns-clause-exact c = verdict_ok (scene_rules c.args.bytes.now) ∙ sym (ap is_ok c.check_records.ensures)
+
+pub returns-clause-meaning : goal.returns-clause-meaning
+returns-clause-meaning c =
     let b = c.args.bytes.now in
-    let is = c.check_records.ensures in
-    let exact : admits b ≡ is_ok c.check_records.result = verdict_ok (scene_rules b) ∙ sym (ap is_ok is) in
+    let exact : admits b ≡ is_ok c.check_records.result =
+    verdict_ok (scene_rules b) ∙ sym (ap is_ok c.check_records.ensures) in
     let small : (i : ℕ) → byte_at b i < 256 = λ i. omega (arith, c.type_inv.bytes i) in
-    record {
-      answer = is;
-      exact = exact;
-      meaning = accepted b small (is_ok c.check_records.result) exact;
-      back = read_back b;
-    }
+    accepted b small (is_ok c.check_records.result) exact
+
+pub returns-clause-back : goal.returns-clause-back
+returns-clause-back c = read_back c.args.bytes.now

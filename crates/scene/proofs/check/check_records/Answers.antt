@@ -1,16 +1,8 @@
 -- The header's rules, then the others.
 use Rattle.std.proofs.Common.{ap, ◌∙◌}
 use Rattle.scene.specs.Rules.{verdict, head_of, header_rules, in_record, body_rules}
-use Rattle.scene.proofs.Verdicts.{past, stopped, exit_is, header_passed, header_stopped}
+use Rattle.scene.proofs.Verdicts.{past, header_passed}
 use Rattle.scene.proofs.check.check_records.Goals as goal
-
-pub returns-in_err-head : goal.returns-in_err-head
-returns-in_err-head c =
-    let b = c.args.bytes.now in
-    let bad = c.in_err-head in
-    exit_is c.from_residual.result _ c.from_residual.ensures.1
-    ∙ stopped (in_record 0 (header_rules b)) (body_rules (head_of b) b) _
-    (header_stopped b c.read_header.result c.read_header.ensures bad.field-0.0 bad.ensures)
 
 pub returns : goal.returns
 returns c =

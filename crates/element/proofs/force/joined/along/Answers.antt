@@ -3,5 +3,5 @@ use Rattle.std.proofs.Common.{w32, rules}
 use Rattle.std.proofs.lemmas.Int.{wrapping_add-bits}
 use Rattle.element.proofs.force.joined.along.Goals as goal
 
-pub returns : goal.returns
-returns c = search (rules, wrapping_add-bits w32)
+pub returns-clause-signed : goal.returns-clause-signed
+returns-clause-signed c = search (rules, wrapping_add-bits w32)

@@ -3,14 +3,9 @@ use Rattle.scene.specs.Views.{viewed}
 use Rattle.exchange.proofs.Promises.{own_sums_from_load}
 use Rattle.exchange.proofs.run.drive.start_fresh.Goals as goal
 
-pub returns-in-Ok : goal.returns-in-Ok
-returns-in-Ok g c =
-    let started = c.in-Ok.ensures in
-    record {
-      exact = started.exact;
-      promise = λ laid.
-          let s = viewed c.args.scene.now in
-          started.promise s laid
-          (own_sums_from_load g.E.Element.algebra s c.args.plan.now.copies.now c.requires.0
-          c.args.copies.now laid.same_copies c.requires.1);
-    }
+pub returns-in-Ok-clause-promise : goal.returns-in-Ok-clause-promise
+returns-in-Ok-clause-promise g c = λ laid.
+    let s = viewed c.args.scene.now in
+    c.in-Ok.ensures.promise s laid
+    (own_sums_from_load g.E.Element.algebra s c.args.plan.now.copies.now c.requires.0
+    c.args.copies.now laid.same_copies c.requires.1)
