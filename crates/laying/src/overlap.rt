@@ -89,14 +89,13 @@ pub(crate) fn reach(scene: &SceneView, p: usize, m: usize) -> [bool; 1024]
 }
 
 // For each board, flags the vertices that it keeps.
-// Kept: written by index, since after `iter_mut` a proof knows only the length.
 pub(crate) fn keep_all(scene: &SceneView) -> [[bool; 1024]; 8]
     ensures { (p : ℕ) → p < (viewed scene.now).boards
         → Tells (row result p) 1024 (keeps (viewed scene.now) p) }
 {
     let mut kept = [[false; 1024]; 8];
-    for p in 0..scene.boards() {
-        kept[p] = reach(scene, p, scene.overlap());
+    for (p, row) in kept[..scene.boards()].iter_mut().enumerate() {
+        *row = reach(scene, p, scene.overlap());
     }
     kept
 }

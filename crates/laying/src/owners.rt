@@ -18,14 +18,12 @@ fn lower(owner: Option<u8>, mine: bool, p: u8) -> Option<u8>
 }
 
 // Gives board p its vertices that no lower board has.
-// Kept: written by index, since after `iter_mut` a proof knows only the length.
-fn settle(owners: &mut [Option<u8>; 1024], mine: &[bool; 1024], p: u8, n: usize)
-    requires { n ≤ 1024 }
-    ensures { (v : ℕ) → v < n → slice_index_or owners.new v None
+fn settle(owners: &mut [Option<u8>; 1024], mine: &[bool; 1024], p: u8)
+    ensures { (v : ℕ) → v < 1024 → slice_index_or owners.new v None
         ≡ option_or (slice_index_or owners.old v None) (then_some (flag mine.now v) p) }
 {
-    for v in 0..n {
-        owners[v] = lower(owners[v], mine[v], p);
+    for (v, owner) in owners.iter_mut().enumerate() {
+        *owner = lower(*owner, mine[v], p);
     }
 }
 
@@ -44,7 +42,7 @@ pub(crate) fn owners(scene: &SceneView) -> [Option<u8>; 1024]
     let mut owners = [None; 1024];
     for p in 0..scene.boards() {
         let mine = own_vertices(scene, p);
-        settle(&mut owners, &mine, p as u8, scene.vertices());
+        settle(&mut owners, &mine, p as u8);
     }
     owners
 }

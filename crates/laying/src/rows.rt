@@ -3,16 +3,15 @@ ghost use Rattle.std.specs.Prelude.{◌≡◌, ℕ, ◌<◌, ◌≤◌};
 ghost use Rattle.laying.specs.Rows.{flag, many};
 
 // Flags the numbers below n that pass the test.
-// Kept: written by index, since after `iter_mut` a proof knows only the length. `array::from_fn` was tried: its clause
-// is a record for each of 1,024 numbers, in which the search for a caller's proof ends at its limits.
+// Kept: a loop; the clause of `array::from_fn` is a record for each number, in which a caller's search ends at its limits.
 pub(crate) fn passing<F: Fn(usize) -> bool>(n: usize, test: F) -> [bool; 1024]
     requires few { n ≤ 1024 }
     requires callable { F.IsAlwaysCallable test }
     ensures { (k : ℕ) → k < n → F.post test k (flag result k) }
 {
     let mut flags = [false; 1024];
-    for k in 0..n {
-        flags[k] = test(k);
+    for (k, flag) in flags[..n].iter_mut().enumerate() {
+        *flag = test(k);
     }
     flags
 }

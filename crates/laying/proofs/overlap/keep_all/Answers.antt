@@ -13,7 +13,7 @@ pub loop-p-preserved : goal.loop-p-preserved
 loop-p-preserved c =
     let s = viewed c.args.scene.now in
     let few = (view_sound c.args.scene.now).few_boards in
-    let rows = c.loop-p.kept in
+    let rows = c.loop-p.row-items in
     let p = c.loop-p.p in
     let mine = c.reach.result in
     let P : ℕ → List Bool → Type 0 = λ q r. Tells r 1024 (keeps s q) in

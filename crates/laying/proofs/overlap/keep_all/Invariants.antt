@@ -8,4 +8,5 @@ use Rattle.laying.proofs.overlap.keep_all.Given as goal
 
 abbrev pub invariant-loop-p : goal.invariant-loop-p
 invariant-loop-p l =
-    (length l.kept ≡ 8) × ((q : ℕ) → q < l.p → Tells (row l.kept q) 1024 (keeps (viewed l.scene) q))
+    (length l.row-items ≡ (viewed l.scene).boards)
+    × ((q : ℕ) → q < l.p → Tells (row l.row-items q) 1024 (keeps (viewed l.scene) q))

@@ -24,7 +24,7 @@ loop-p-preserved c =
       search rules,
       λ x h.
           let t : ℕ → Bool = λ q. owns_cell_on s q x in
-          c.settle.ensures x (omega (arith, c.vertices.ensures))
+          c.settle.ensures x (omega arith)
           ∙ ap (λ o. option_or o (then_some (flag c.own_vertices-mine.result x) p)) (c.loop-p.invariant.1 x h)
           ∙ ap (λ b. option_or (lowest_below t p) (then_some b p)) (c.own_vertices-mine.ensures x (omega arith))
           ∙ sym (lowest_more t p),

@@ -15,11 +15,11 @@ loop-v-preserved c =
     let P : ℕ → Option ℕ → Type 0 = λ k o. o ≡ option_or (get_or c.args.owners.now k None) (mine k) in
     let here : c.lower.result ≡ option_or (get_or owners v None) (mine v) = search rules in
     record {
-      long = length-set owners v c.lower.result ∙ c.loop-v.invariant.long;
+      long = length-set owners v _ ∙ c.loop-v.invariant.long;
       done =
-          filled_more P owners v c.lower.result None (omega (arith, c.loop-v.invariant.long)) c.loop-v.invariant.done
+          filled_more P owners v _ None (omega (arith, c.loop-v.invariant.long)) c.loop-v.invariant.done
           (here ∙ ap (λ o. option_or o (mine v)) (c.loop-v.invariant.rest v (omega arith)));
       rest =
           λ k h.
-          get_or-set_other owners v k c.lower.result None (λ e. omega arith) ∙ c.loop-v.invariant.rest k (omega arith);
+          get_or-set_other owners v k _ None (λ e. omega arith) ∙ c.loop-v.invariant.rest k (omega arith);
     }

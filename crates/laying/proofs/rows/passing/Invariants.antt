@@ -5,4 +5,4 @@ use Rattle.laying.proofs.rows.passing.Given as goal
 
 abbrev pub invariant-loop-k : goal.invariant-loop-k
 invariant-loop-k g l =
-    (length l.flags ≡ 1024) × ((i : ℕ) → i < l.k → goal.F-post g l.test i (flag l.flags i))
+    (length l.flag-items ≡ l.n) × ((i : ℕ) → i < l.k → goal.F-post g l.test i (flag l.flag-items i))
