@@ -2,25 +2,14 @@
 use Rattle.std.proofs.Common.{◌≡◌, ℕ, zero, suc, ◌+◌, ◌<◌, ◌≤◌, Bool, true, false, ◌&&◌, ◌||◌, List, [], ◌∷◌, length}
 use Rattle.std.proofs.Common.{get_or}
 use Rattle.std.proofs.Common.{sym, refl, ap, ◌∙◌, zero-add, add-zero, arith}
+use Rattle.std.proofs.Math.Bool.{or-false, or-true, or_assoc}
 use Rattle.std.specs.List.{AllByRecursion, slice_get, list_any, range_with_len}
 use Rattle.forest.specs.Forest.{any}
 use Rattle.laying.specs.Rows.{some, passes}
 
-pub or_false : (a : Bool) → (a || false) ≡ a
-or_false true = refl
-or_false false = refl
-
-or_assoc : (a b c : Bool) → ((a || b) || c) ≡ (a || (b || c))
-or_assoc true b c = refl
-or_assoc false b c = refl
-
-or_true : (a : Bool) → (a || true) ≡ true
-or_true true = refl
-or_true false = refl
-
 or_pairs : (a b c d : Bool) → ((a || b) || (c || d)) ≡ ((a || c) || (b || d))
 or_pairs true b c d = refl
-or_pairs false true c d = sym (or_true c) ∙ pick c
+or_pairs false true c d = sym (or-true c) ∙ pick c
   where
     pick : (x : Bool) → (x || true) ≡ (x || (true || d))
     pick x = refl
@@ -35,10 +24,6 @@ pub or_drop : (a b c : Bool) → c ≡ false → (a || (b || c)) ≡ (a || b)
 or_drop true b c e = refl
 or_drop false true c e = refl
 or_drop false false c e = e
-
--- nothing is added by a test that fails
-pub or_none : (a b c : Bool) → b ≡ false → a ≡ (a || (b && c))
-or_none a b c e = sym (or_false a) ∙ ap (λ x. a || (x && c)) (sym e)
 
 module _ {X : Type 0} where
   pub any_same : (f g : X → Bool) → ((x : X) → f x ≡ g x) → (xs : List X) → any f xs ≡ any g xs
@@ -77,7 +62,7 @@ some_same f g (suc n) h =
     ap (λ b. b || f n) (some_same f g n (λ k l. h k (omega arith))) ∙ ap (λ b. some g n || b) (h n (omega arith))
 
 some_front : (f : ℕ → Bool) (n : ℕ) → some f (suc n) ≡ (f 0 || some (λ k. f (suc k)) n)
-some_front f zero = sym (or_false (f 0))
+some_front f zero = sym (or-false (f 0))
 some_front f (suc n) =
     ap (λ b. b || f (suc n)) (some_front f n) ∙ or_assoc (f 0) (some (λ k. f (suc k)) n) (f (suc n))
 
@@ -89,7 +74,7 @@ some_any t (x ∷ xs) d =
 
 some_none : (t : ℕ → Bool) (n : ℕ) → some (λ k. passes t (slice_get [] k)) n ≡ false
 some_none t zero = refl
-some_none t (suc n) = or_false (some (λ k. passes t (slice_get [] k)) n) ∙ some_none t n
+some_none t (suc n) = or-false (some (λ k. passes t (slice_get [] k)) n) ∙ some_none t n
 
 -- the same, where places past the list's end are tried too
 pub some_places : (t : ℕ → Bool) (xs : List ℕ) (n : ℕ) → length xs ≤ n

@@ -3,7 +3,7 @@ ghost use Rattle.std.specs.Prelude.{◌≡◌, ℕ, ◌<◌, ◌≤◌};
 ghost use Rattle.laying.specs.Rows.{flag, many};
 
 // Flags the numbers below n that pass the test.
-// Kept: a loop; the clause of `array::from_fn` is a record for each number, in which a caller's search ends at its limits.
+// Kept: a loop; `array::from_fn` says a record for each number, in which the search for a caller's proof ends.
 pub(crate) fn passing<F: Fn(usize) -> bool>(n: usize, test: F) -> [bool; 1024]
     requires few { n ≤ 1024 }
     requires callable { F.IsAlwaysCallable test }

@@ -1,12 +1,12 @@
 -- One cell more.
 use Rattle.std.proofs.Common.{◌≡◌, ℕ, Bool, false, ◌&&◌, ◌||◌, length, sym, refl, ap, ◌∙◌, arith, rules}
 use Rattle.std.proofs.lemmas.List.{get_or-replicate}
+use Rattle.std.proofs.Math.Bool.{or-false}
 use Rattle.forest.specs.Forest.{on}
 use Rattle.scene.proofs.Viewing.{view_sound}
 use Rattle.scene.specs.Views.{viewed}
 use Rattle.laying.specs.Rows.{flag, some}
 use Rattle.laying.specs.Seen.{cell_of}
-use Rattle.laying.proofs.Anys.{or_false}
 use Rattle.laying.proofs.Gather.{some_more}
 use Rattle.laying.proofs.overlap.mark.Goals.{then-inside-c, else-inside-c}
 use Rattle.laying.proofs.overlap.mark.Goals as goal
@@ -41,7 +41,7 @@ loop-c-preserved c =
             let t : ℕ → Bool = λ k. inside k && on v (cell k) in
             ap (λ r. flag r v) w.touched-is
             ∙ inv.1 v h
-            ∙ sym (or_false (some t i))
+            ∙ sym (or-false (some t i))
             ∙ ap (λ b. some t i || (b && on v (cell i))) (sym w.if-inside-c.false)
             ∙ sym (some_more t i),
       )

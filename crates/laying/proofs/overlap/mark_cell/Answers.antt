@@ -2,10 +2,10 @@
 use Rattle.std.proofs.Common.{◌≡◌, ℕ, ◌<◌, Bool, true, ◌||◌, eqb, Some, None, length, sym, ap, ◌∙◌}
 use Rattle.std.proofs.Common.{arith}
 use Rattle.std.proofs.lemmas.List.{length-set}
+use Rattle.std.proofs.Math.Bool.{or-false}
 use Rattle.scene.specs.Read.{corner_of}
 use Rattle.scene.specs.Views.{viewed}
 use Rattle.laying.specs.Rows.{flag, passes, some}
-use Rattle.laying.proofs.Anys.{or_false}
 use Rattle.laying.proofs.Corners.{corner_low, some_corner}
 use Rattle.laying.proofs.Gather.{some_more}
 use Rattle.laying.proofs.Layers.{marked_more}
@@ -44,7 +44,7 @@ loop-k-preserved c =
                 let t : ℕ → Bool = λ j. passes (λ y. eqb y v) (corner j) in
                 ap (λ r. flag r v) w.touched-is
                 ∙ inv.1 v h
-                ∙ ap (λ z. was v || z) (sym (or_false (some t k)))
+                ∙ ap (λ z. was v || z) (sym (or-false (some t k)))
                 ∙ ap (λ o. was v || (some t k || passes (λ y. eqb y v) o)) (sym is)
                 ∙ ap (λ z. was v || z) (sym (some_more t k)),
           )
