@@ -6,7 +6,7 @@ ghost use Rattle.scene.specs.Rules.{verdict, head_of, header_rules, end_rules, c
 ghost use Rattle.scene.specs.Rules.{scene_rules, broken, admits};
 
 use crate::bytes::{byte_at, is_marked, number_at};
-use crate::cell::check_cell;
+use crate::cell::CellCheck;
 use crate::fault::{Broken, RecordFault, SceneFault};
 use crate::head::{CORNERS, Head};
 use crate::loops::first_fault;
@@ -84,8 +84,8 @@ fn in_record<T>(number: usize, found: Result<T, RecordFault>) -> Result<T, Broke
 fn check_record(bytes: &[u8], head: Head, n: u16) -> Result<(), SceneFault>
     ensures { result ≡ verdict (cell_record head bytes.now n) }
 {
-    let cell = CellRecord::new(bytes, head.corners, n);
-    in_record(usize::from(n) + 1, check_cell(&cell, head))?;
+    let cell = CellCheck::new(bytes, head, n);
+    in_record(usize::from(n) + 1, cell.all())?;
     Ok(())
 }
 

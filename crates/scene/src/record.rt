@@ -1,8 +1,9 @@
 // The record of one cell among the bytes of a scene: mark, board, zero byte, corners, contributions.
 ghost use Rattle.std.specs.Prelude.{◌≡◌, ◌+◌, ◌*◌, ◌^◌, ◌<◌};
-ghost use Rattle.scene.specs.Layout.{byte_at, number_at, words_at, cell_size, cell_place, corner_place, parts_place};
+ghost use Rattle.scene.specs.Layout.{byte_at, number_at, word_at, words_at, cell_size, cell_place};
+ghost use Rattle.scene.specs.Layout.{corner_place, parts_place, word_place};
 
-use crate::bytes::{byte_at, number_at, words_at};
+use crate::bytes::{byte_at, number_at, word_at, words_at};
 use element::words::Words;
 
 // It begins at the byte `at`. How many corners a cell has, the header says.
@@ -10,7 +11,8 @@ use element::words::Words;
 pub(crate) struct CellRecord<'a> {
     pub bytes: &'a [u8],
     pub at: usize,
-    ghost low: { at < 2 ^ 31 },
+    pub corners: u8,
+    ghost low: { parts_place corners at < 2 ^ 31 },
 }
 
 // How many bytes the record of a cell of so many corners has.
@@ -23,11 +25,12 @@ pub(crate) fn cell_size(corners: u8) -> usize
 impl<'a> CellRecord<'a> {
     // The record of cell number n, behind the header's 10 bytes.
     pub(crate) fn new(bytes: &'a [u8], corners: u8, n: u16) -> CellRecord<'a>
-        ensures { (result.bytes.now ≡ bytes.now) × (result.at ≡ cell_place corners n) }
+        ensures { (result.bytes.now ≡ bytes.now) × (result.at ≡ cell_place corners n) × (result.corners ≡ corners) }
     {
         CellRecord {
             bytes,
             at: 10 + usize::from(n) * cell_size(corners),
+            corners,
         }
     }
 
@@ -51,17 +54,30 @@ impl<'a> CellRecord<'a> {
         number_at(self.bytes, self.corner_place(i))
     }
 
-    // Where its contributions begin.
-    pub(crate) fn parts_place(&self, corners: u8) -> usize
-        ensures { result ≡ parts_place corners self.now.at }
+    // Where its contributions begin, three words to a corner.
+    pub(crate) fn parts_place(&self) -> usize
+        ensures { result ≡ parts_place self.now.corners self.now.at }
     {
-        self.at + 4 + 2 * usize::from(corners)
+        self.at + 4 + 2 * usize::from(self.corners)
+    }
+
+    pub(crate) fn word_place(&self, w: u16) -> usize
+        ensures { result ≡ word_place self.now.corners self.now.at w }
+    {
+        self.parts_place() + 4 * usize::from(w)
+    }
+
+    // Word number w of them.
+    pub(crate) fn word(&self, w: u16) -> u32
+        ensures { result ≡ word_at self.now.bytes.now (word_place self.now.corners self.now.at w) }
+    {
+        word_at(self.bytes, self.word_place(w))
     }
 
     // The contribution at corner number i.
-    pub(crate) fn part(&self, corners: u8, i: u16) -> Words
-        ensures { result ≡ words_at self.now.bytes.now (parts_place corners self.now.at + 12 * i) }
+    pub(crate) fn part(&self, i: u16) -> Words
+        ensures { result ≡ words_at self.now.bytes.now (parts_place self.now.corners self.now.at + 12 * i) }
     {
-        words_at(self.bytes, self.parts_place(corners) + 12 * usize::from(i))
+        words_at(self.bytes, self.parts_place() + 12 * usize::from(i))
     }
 }

@@ -93,7 +93,9 @@ impl<'a> SceneView<'a> {
     // The record of cell number c, if there is such a cell.
     fn cell(&self, c: usize) -> Option<CellRecord<'a>>
         ensures { elim result [
-          | Some cell ↦ (cell.bytes.now ≡ self.now.bytes.now) × (Some cell.at ≡ start_of self.now.bytes.now c)
+          | Some cell ↦ (cell.bytes.now ≡ self.now.bytes.now)
+              × (Some cell.at ≡ start_of self.now.bytes.now c)
+              × (cell.corners ≡ corners_of self.now.bytes.now)
           | None ↦ None ≡ start_of self.now.bytes.now c
         ] }
     {
@@ -130,7 +132,7 @@ impl<'a> SceneView<'a> {
     {
         let cell = self.cell(c)?;
         if k < self.corners() {
-            Some(cell.part(CORNERS, k as u16))
+            Some(cell.part(k as u16))
         } else {
             None
         }

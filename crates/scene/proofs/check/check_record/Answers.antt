@@ -13,12 +13,13 @@ returns-in_err-in_record c =
     let bad = c.in_err-in_record in
     let cell = c.new-cell in
     let is =
-    c.check_cell.ensures
-    ∙ ap (λ x. verdict (cell_rules h x cell.result.at)) cell.ensures.0
+    c.all.ensures
+    ∙ ap (λ x. verdict (cell_rules x cell.result.cell.bytes.now cell.result.cell.at)) cell.ensures.2
+    ∙ ap (λ x. verdict (cell_rules h x cell.result.cell.at)) cell.ensures.0
     ∙ ap (λ at. verdict (cell_rules h b at)) cell.ensures.1 in
     exit_is c.from_residual.result _ c.from_residual.ensures.1
-    ∙ record_stopped (n + 1) (cell_rules h b (cell_place h.corners n)) c.check_cell.result is bad.field-0.0
-    (bad.ensures ∙ ap (λ k. broken (k + 1) c.check_cell.result) c.from.ensures)
+    ∙ record_stopped (n + 1) (cell_rules h b (cell_place h.corners n)) c.all.result is bad.field-0.0
+    (bad.ensures ∙ ap (λ k. broken (k + 1) c.all.result) c.from.ensures)
 
 pub returns : goal.returns
 returns c =
@@ -27,8 +28,9 @@ returns c =
     let n = c.args.n in
     let cell = c.new-cell in
     let is =
-    c.check_cell.ensures
-    ∙ ap (λ x. verdict (cell_rules h x cell.result.at)) cell.ensures.0
+    c.all.ensures
+    ∙ ap (λ x. verdict (cell_rules x cell.result.cell.bytes.now cell.result.cell.at)) cell.ensures.2
+    ∙ ap (λ x. verdict (cell_rules h x cell.result.cell.at)) cell.ensures.0
     ∙ ap (λ at. verdict (cell_rules h b at)) cell.ensures.1 in
-    record_passed (n + 1) (cell_rules h b (cell_place h.corners n)) c.check_cell.result is
-    (c.in_ok-in_record.ensures ∙ ap (λ k. broken (k + 1) c.check_cell.result) c.from.ensures)
+    record_passed (n + 1) (cell_rules h b (cell_place h.corners n)) c.all.result is
+    (c.in_ok-in_record.ensures ∙ ap (λ k. broken (k + 1) c.all.result) c.from.ensures)

@@ -17,7 +17,9 @@ returns-then-k-corners c =
     let at = c.in_ok-cell.cell.at in
     let is = c.in_ok-cell.ensures in
     let inside : c.args.k < corners_of b = omega arith in
-    ap Some (c.part.ensures ∙ ap (λ x. words_at x (parts_place 3 at + 12 * c.args.k)) is.0)
+    ap Some (c.part.ensures
+    ∙ ap (λ x. words_at x (parts_place c.in_ok-cell.cell.corners at + 12 * c.args.k)) is.0
+    ∙ ap (λ n. words_at b (parts_place n at + 12 * c.args.k)) is.2)
     ∙ part_read b c.args.c at is.1 c.args.k inside
 
 pub returns-else-k-corners : goal.returns-else-k-corners

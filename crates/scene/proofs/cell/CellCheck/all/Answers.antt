@@ -5,7 +5,7 @@ use Rattle.scene.specs.declared.fault.RecordFault.{RecordFault}
 use Rattle.scene.specs.declared.head.Head.{Head}
 use Rattle.scene.specs.Rules.{Rule, start_rules, corner_rule, pair_rules, word_rule}
 use Rattle.scene.proofs.Verdicts.{past, stopped, exit_is}
-use Rattle.scene.proofs.cell.check_cell.Goals as goal
+use Rattle.scene.proofs.cell.CellCheck.all.Goals as goal
 
 abbrev on_vertices : Head → List ℕ → ℕ → List (Rule RecordFault)
 on_vertices h b at = flat_map (corner_rule h b at) (range_with_len 0 h.corners)
@@ -16,38 +16,38 @@ all_apart h b at = flat_map (pair_rules h b at) (range_with_len 0 h.corners)
 abbrev words_unused : Head → List ℕ → ℕ → List (Rule RecordFault)
 words_unused h b at = flat_map (word_rule h b at) (range_with_len 0 (3 * h.corners))
 
-pub returns-in_err-check_corners : goal.returns-in_err-check_corners
-returns-in_err-check_corners c =
-    let h = c.args.head in
-    let b = c.args.cell.now.bytes.now in
-    let at = c.args.cell.now.at in
-    let bad = c.in_err-check_corners in
-    let r = c.from_residual-in_err-check_corners in
+pub returns-in_err-corners : goal.returns-in_err-corners
+returns-in_err-corners c =
+    let h = c.args.self.now.head in
+    let b = c.args.self.now.cell.bytes.now in
+    let at = c.args.self.now.cell.at in
+    let bad = c.in_err-corners in
+    let r = c.from_residual-in_err-corners in
     let rest = all_apart h b at ++ words_unused h b at in
     exit_is r.result bad.field-0.0 r.ensures.1
     ∙ stopped (on_vertices h b at) rest bad.field-0.0 bad.ensures
-    ∙ past (start_rules h b at) (on_vertices h b at ++ rest) c.in_ok-check_start.ensures
+    ∙ past (start_rules h b at) (on_vertices h b at ++ rest) c.in_ok-start.ensures
 
-pub returns-in_err-check_apart : goal.returns-in_err-check_apart
-returns-in_err-check_apart c =
-    let h = c.args.head in
-    let b = c.args.cell.now.bytes.now in
-    let at = c.args.cell.now.at in
-    let bad = c.in_err-check_apart in
-    let r = c.from_residual-in_err-check_apart in
+pub returns-in_err-apart : goal.returns-in_err-apart
+returns-in_err-apart c =
+    let h = c.args.self.now.head in
+    let b = c.args.self.now.cell.bytes.now in
+    let at = c.args.self.now.cell.at in
+    let bad = c.in_err-apart in
+    let r = c.from_residual-in_err-apart in
     let rest = all_apart h b at ++ words_unused h b at in
     exit_is r.result bad.field-0.0 r.ensures.1
     ∙ stopped (all_apart h b at) (words_unused h b at) bad.field-0.0 bad.ensures
-    ∙ past (on_vertices h b at) rest c.in_ok-check_corners.ensures
-    ∙ past (start_rules h b at) (on_vertices h b at ++ rest) c.in_ok-check_start.ensures
+    ∙ past (on_vertices h b at) rest c.in_ok-corners.ensures
+    ∙ past (start_rules h b at) (on_vertices h b at ++ rest) c.in_ok-start.ensures
 
 pub returns : goal.returns
 returns c =
-    let h = c.args.head in
-    let b = c.args.cell.now.bytes.now in
-    let at = c.args.cell.now.at in
+    let h = c.args.self.now.head in
+    let b = c.args.self.now.cell.bytes.now in
+    let at = c.args.self.now.cell.at in
     let rest = all_apart h b at ++ words_unused h b at in
-    c.check_words.ensures
-    ∙ past (all_apart h b at) (words_unused h b at) c.in_ok-check_apart.ensures
-    ∙ past (on_vertices h b at) rest c.in_ok-check_corners.ensures
-    ∙ past (start_rules h b at) (on_vertices h b at ++ rest) c.in_ok-check_start.ensures
+    c.words.ensures
+    ∙ past (all_apart h b at) (words_unused h b at) c.in_ok-apart.ensures
+    ∙ past (on_vertices h b at) rest c.in_ok-corners.ensures
+    ∙ past (start_rules h b at) (on_vertices h b at ++ rest) c.in_ok-start.ensures
