@@ -1,15 +1,16 @@
 -- How many copies and edges the tables say, and the edges as they are written.
-use Rattle.std.proofs.Common.{◌≡◌, ℕ, zero, suc, ◌+◌, ◌*◌, ◌≤◌, Bool, false, List, [], length, count_by, sum_by}
-use Rattle.std.proofs.Common.{get_or, take, Option}
+use Rattle.std.proofs.Common.{◌≡◌, ℕ, zero, suc, ◌+◌, ◌*◌, ◌<◌, ◌≤◌, Bool, false, List, [], ◌++◌, length, count_by}
+use Rattle.std.proofs.Common.{sum_by, get_or, take, Option}
 use Rattle.std.proofs.Common.{sym, refl, ap, ◌∙◌, inl, inr, add-one, arith}
-use Rattle.laying.specs.Rows.{flag, many}
-use Rattle.laying.specs.Tables.{row, row_copies, board_copies, copies_in, ghost_in}
+use Rattle.laying.specs.Rows.{flag, many, only}
+use Rattle.laying.specs.Tables.{row, copy_at, row_copies, board_copies, copies_in, ghost_in}
 use Rattle.laying.specs.Tables.{edge_if, edge_at, link_edges, link_in, board_edges}
+use Rattle.laying.proofs.Counts.{gathered_same}
 use Rattle.laying.proofs.Gather.{length_only, many_le}
 use Rattle.plan.specs.declared.records.CopyRecord.{CopyRecord}
 use Rattle.plan.specs.declared.records.Edge.{Edge}
 use Rattle.std.proofs.lemmas.Bool.{cases_Bool, cases_lt}
-use Rattle.std.proofs.lemmas.List.{length-append, take_all, get_or_past}
+use Rattle.std.proofs.lemmas.List.{length-append, length-take-le, append-nil, take_all, get_or_past, get_or-take}
 use Rattle.std.proofs.lemmas.List.Sums.{count_by_more_yes, count_by_more_no, sum_by_more}
 use mir.Val.{bool_byte}
 
@@ -92,15 +93,61 @@ rows_counted table n (suc p) =
     ]
 
 -- the flags set among a row's first n
-pub flags_counted : (row : List Bool) (n : ℕ) → n ≤ length row → count_by (λ b. b) (take n row) ≡ many (flag row) n
-flags_counted row zero h = refl
-flags_counted row (suc n) h =
-    let so_far = flags_counted row n (omega arith) in
+pub flags_counted : (row : List Bool) (n : ℕ) → count_by (λ b. b) (take n row) ≡ many (flag row) n
+flags_counted row zero = refl
+flags_counted row (suc n) =
+    let so_far = flags_counted row n in
     let more : count_by (λ b. b) (take (suc n) row) ≡ count_by (λ b. b) (take (n + 1) row) =
     ap (λ k. count_by (λ (b : Bool). b) (take k row)) (sym (add-one n)) in
-    elim (cases_Bool (get_or row n false)) [
-      | inl e ↦
-          omega (arith, more, so_far, count_by_more_yes (λ b. b) row n false (omega arith) e, ap bool_byte e)
-      | inr e ↦
-          omega (arith, more, so_far, count_by_more_no (λ b. b) row n false (omega arith) e, ap bool_byte e)
+    elim (cases_lt n (length row)) [
+      | inl h ↦
+          elim (cases_Bool (get_or row n false)) [
+            | inl e ↦ omega (arith, more, so_far, count_by_more_yes (λ b. b) row n false h e, ap bool_byte e)
+            | inr e ↦ omega (arith, more, so_far, count_by_more_no (λ b. b) row n false h e, ap bool_byte e)
+          ]
+      | inr h ↦
+          let same : count_by (λ b. b) (take (n + 1) row) ≡ count_by (λ b. b) (take n row) =
+          ap (count_by (λ (b : Bool). b)) (take_all (n + 1) row (omega arith) ∙ sym (take_all n row h)) in
+          omega (arith, more, so_far, same, ap bool_byte (get_or_past row n false h))
     ]
+
+-- past a row's end no flag is set
+copies_past : (keep : List Bool) (p n : ℕ) → length keep ≤ n → row_copies keep p n ≡ row_copies keep p (length keep)
+unfolding copy
+copies_past keep p zero h =
+    let none : zero ≡ length keep = omega arith in
+    ap (row_copies keep p) none
+copies_past keep p (suc n) h =
+    elim (cases_lt n (length keep)) [
+      | inl l ↦
+          let all : suc n ≡ length keep = omega arith in
+          ap (row_copies keep p) all
+      | inr l ↦
+          ap (λ b. row_copies keep p n ++ only b (copy p n)) (get_or_past keep n false l)
+          ∙ append-nil (row_copies keep p n)
+          ∙ copies_past keep p n l
+    ]
+
+-- the copies of a row cut after n vertices
+copies_taken : (keep : List Bool) (p n : ℕ) → row_copies (take n keep) p (length (take n keep)) ≡ row_copies keep p n
+unfolding copy
+copies_taken keep p n =
+    elim (cases_lt n (length keep)) [
+      | inl h ↦
+          ap (row_copies (take n keep) p) (length-take-le n keep (omega arith))
+          ∙ gathered_same (copy_at (take n keep) p) (copy_at keep p) n
+          (λ v l. ap (λ b. only b (copy p v)) (get_or-take n keep v false l))
+      | inr h ↦ ap (λ r. row_copies r p (length r)) (take_all n keep h) ∙ sym (copies_past keep p n h)
+    ]
+
+-- a row of the first b, cut after n vertices
+module _ (table : List (List Bool)) (b n p : ℕ) (h : p < b) where
+  is_row : row (take b table) p ≡ row table p
+  is_row = get_or-take b table p [] h
+
+  pub row_counted : count_by (λ f. f) (take n (row (take b table) p)) ≡ many (flag (row table p)) n
+  row_counted = ap (λ r. count_by (λ (f : Bool). f) (take n r)) is_row ∙ flags_counted (row table p) n
+
+  pub row_taken : row_copies (take n (row (take b table) p)) p (length (take n (row (take b table) p)))
+      ≡ board_copies table n p
+  row_taken = ap (λ r. row_copies (take n r) p (length (take n r))) is_row ∙ copies_taken (row table p) p n

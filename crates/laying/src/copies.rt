@@ -23,13 +23,13 @@ fn write_copy(kept: bool, p: u8, v: usize, out: &mut Filling<CopyRecord>)
     out.push_if(kept, copy);
 }
 
-// Appends the copies of board p, of the first n vertices, which it keeps where they are flagged.
-fn write_row(row: &[bool; 1024], p: u8, n: usize, out: &mut Filling<CopyRecord>)
-    requires small { n ≤ 1024 }
-    requires room { HasRoom out.old (row_copies row.now p n) }
-    ensures { Appends out.old out.new (row_copies row.now p n) }
+// Appends the copies of board p, which keeps the flagged vertices.
+fn write_row(row: &[bool], p: u8, out: &mut Filling<CopyRecord>)
+    requires few { length row.now ≤ 1024 }
+    requires room { HasRoom out.old (row_copies row.now p (length row.now)) }
+    ensures { Appends out.old out.new (row_copies row.now p (length row.now)) }
 {
-    for (v, kept) in row[..n].iter().enumerate() {
+    for (v, kept) in row.iter().enumerate() {
         write_copy(*kept, p, v, out);
     }
 }
@@ -41,7 +41,7 @@ impl Tables {
     {
         self.kept[..self.boards]
             .iter()
-            .map(|row| count(row, self.vertices))
+            .map(|row| count(&row[..self.vertices]))
             .sum()
     }
 
@@ -52,8 +52,8 @@ impl Tables {
             ≡ all_copies self.now ++ drop (length (all_copies self.now)) copies.old }
     {
         let mut out = Filling::new(copies);
-        for p in 0..self.boards {
-            write_row(&self.kept[p], p as u8, self.vertices, &mut out);
+        for (p, row) in self.kept[..self.boards].iter().enumerate() {
+            write_row(&row[..self.vertices], p as u8, &mut out);
         }
     }
 }

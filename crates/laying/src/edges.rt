@@ -116,9 +116,9 @@ impl Tables {
         ensures { Appends out.old out.new (edges_from self.now p) }
     {
         let mut root = 0;
-        for q in 0..self.boards {
+        for (q, row) in self.kept[..self.boards].iter().enumerate() {
             self.link(p, q).write(leaf, root, out);
-            root += count(&self.kept[q], self.vertices);
+            root += count(&row[..self.vertices]);
         }
     }
 
@@ -130,9 +130,9 @@ impl Tables {
     {
         let mut out = Filling::new(edges);
         let mut leaf = 0;
-        for p in 0..self.boards {
+        for (p, row) in self.kept[..self.boards].iter().enumerate() {
             self.write_board(p, leaf, &mut out);
-            leaf += count(&self.kept[p], self.vertices);
+            leaf += count(&row[..self.vertices]);
         }
     }
 }

@@ -1,6 +1,6 @@
 // Rows of flags.
-ghost use Rattle.std.specs.Prelude.{◌≡◌, ℕ, ◌<◌, ◌≤◌};
-ghost use Rattle.laying.specs.Rows.{flag, many};
+ghost use Rattle.std.specs.Prelude.{◌≡◌, ℕ, ◌<◌, ◌≤◌, count_by};
+ghost use Rattle.laying.specs.Rows.{flag};
 
 // Flags the numbers below n that pass the test.
 // Kept: a loop; `array::from_fn` says a record for each number, in which the search for a caller's proof ends.
@@ -16,12 +16,9 @@ pub(crate) fn passing<F: Fn(usize) -> bool>(n: usize, test: F) -> [bool; 1024]
     flags
 }
 
-// How many of the first n flags are set.
-// Kept: the bound of n here, in `passing`, `write_row` and `settle`, each for an array of its own.
-pub(crate) fn count(row: &[bool; 1024], n: usize) -> usize
-    requires { n ≤ 1024 }
-    ensures set { result ≡ many (flag row.now) n }
-    ensures few { result ≤ 1024 }
+// How many flags are set.
+pub(crate) fn count(row: &[bool]) -> usize
+    ensures { result ≡ count_by (λ set. set) row.now }
 {
-    row[..n].iter().filter(|set| **set).count()
+    row.iter().filter(|set| **set).count()
 }

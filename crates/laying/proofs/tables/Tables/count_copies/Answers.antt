@@ -6,7 +6,8 @@ use Rattle.std.proofs.lemmas.List.{length-take}
 use borrow.Author.Tests.{tests}
 use Rattle.std.proofs.iter.runs.Made.{chains}
 use Rattle.laying.specs.Rows.{flag, many}
-use Rattle.laying.proofs.Links.{rows_counted}
+use Rattle.laying.proofs.Gather.{many_le}
+use Rattle.laying.proofs.Links.{flags_counted, rows_counted}
 use Rattle.laying.proofs.tables.Tables.count_copies.Goals as goal
 
 pub sum-requires-clause-fits : goal.sum-requires-clause-fits
@@ -21,11 +22,15 @@ sum-requires-clause-fits c =
     (at_most_from_yields_List (YieldsList-from_slice (take t.boards t.kept) cc) few)
     c.map.ensures.closure
     (omega arith)
-    (λ x r q k. search (rules, tests))
+    (λ x r q k.
+    let is = flags_counted x.now t.vertices in
+    let few = many_le (flag x.now) t.vertices in
+    search (rules, tests))
 
 pub returns : goal.returns
 returns c =
     let t = c.args.self.now in
     let n = t.vertices in
-    let found : c.sum.result ≡ sum_by (λ r. many (flag r) n) (take t.boards t.kept) = search (rules, chains) in
+    let found : c.sum.result ≡ sum_by (λ r. many (flag r) n) (take t.boards t.kept) =
+    search (rules, chains, flags_counted) in
     found ∙ rows_counted t.kept n t.boards
