@@ -39,8 +39,8 @@ fn mark(scene: &SceneView, inside: &[bool; 1024]) -> [bool; 1024]
         (length (viewed scene.now).cells)) }
 {
     let mut touched = [false; 1024];
-    for c in 0..scene.cells() {
-        if inside[c] {
+    for (c, is_inside) in inside[..scene.cells()].iter().enumerate() {
+        if *is_inside {
             mark_cell(scene, c, &mut touched);
         }
     }
