@@ -80,7 +80,7 @@ impl Link<'_> {
 
 impl Tables {
     // The link from board p to board q.
-    // Kept: the bound of a board's number, here and in the two below; a type for such numbers would be no plainer.
+    // Kept: the bound of p, here and in the two below; a struct of tables and p would be `Link` over again, without q.
     fn link(&self, p: usize, q: usize) -> Link<'_>
         requires { (p < 8) × (q < 8) }
         ensures tables { result.tables.now ≡ self.now }

@@ -4,6 +4,7 @@ ghost use Rattle.laying.specs.Rows.{only};
 ghost use Rattle.laying.specs.Filled.{HasRoom, Appends};
 
 // Memory, and how many records stand at its start.
+// Kept: the length beside the memory, which the caller hands in; a `Vec` would allocate, and laying may not.
 #[derive(Drop)]
 pub(crate) struct Filling<'a, T> {
     out: &'a mut [T],
