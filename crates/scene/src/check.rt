@@ -1,6 +1,8 @@
 // Checks the records of a scene in file order.
-ghost use Rattle.std.specs.Prelude.{◌≡◌, ◌^◌, ◌<◌, is_ok, Decides, Ok, Err};
+ghost use Rattle.std.specs.Prelude.{◌≡◌, ◌^◌, ◌<◌, ◌≤◌, is_ok, Decides, Ok, Err};
 ghost use Rattle.std.specs.List.{range_with_len, flat_map};
+ghost use Rattle.scene.specs.declared.fault.RecordFault.TheVariants.{Header};
+ghost use Rattle.scene.specs.Layout.{number_at};
 ghost use Rattle.scene.specs.Written.{Written, ReadsBack};
 ghost use Rattle.scene.specs.Rules.{verdict, head_of, header_rules, end_rules, cell_record, body_rules};
 ghost use Rattle.scene.specs.Rules.{scene_rules, broken, admits};
@@ -12,6 +14,21 @@ use crate::head::{CORNERS, Head};
 use crate::loops::first_fault;
 use crate::record::CellRecord;
 use element::kind::Kind;
+
+// How many vertices or cells there are.
+fn read_count(bytes: &[u8], at: usize) -> Result<u16, RecordFault>
+    requires { at < 2 ^ 31 }
+    ensures { elim result [
+      | Ok count ↦ (count ≡ number_at bytes.now at) × (count ≤ 1024)
+      | Err fault ↦ (fault ≡ Header at) × (1024 < number_at bytes.now at)
+    ] }
+{
+    let count = number_at(bytes, at);
+    if count > 1024 {
+        return Err(RecordFault::Header { place: at });
+    }
+    Ok(count)
+}
 
 // What the header says, or the first fault in it.
 fn read_header(bytes: &[u8]) -> Result<Head, RecordFault>
@@ -39,14 +56,8 @@ fn read_header(bytes: &[u8]) -> Result<Head, RecordFault>
     if byte_at(bytes, 5) > 4 {
         return Err(RecordFault::Header { place: 5 });
     }
-    let vertices = number_at(bytes, 6);
-    if vertices > 1024 {
-        return Err(RecordFault::Header { place: 6 });
-    }
-    let cells = number_at(bytes, 8);
-    if cells > 1024 {
-        return Err(RecordFault::Header { place: 8 });
-    }
+    let vertices = read_count(bytes, 6)?;
+    let cells = read_count(bytes, 8)?;
     Ok(Head {
         corners: CORNERS,
         used: kind.used(),

@@ -5,7 +5,8 @@ ghost use Rattle.scene.specs.Rules.{Rule, verdict};
 
 use std::ops::Range;
 
-// Makes a check for each number, up to the first fault. If each comes to a list of rules, all come to the lists together.
+// Makes a check for each number, up to the first fault. If each comes to a list of rules, all come to the lists
+// together.
 pub(crate) fn first_fault<E, F: Fn(u16) -> Result<(), E>>(
     numbers: Range<u16>,
     check: F,
