@@ -1,5 +1,5 @@
 // What a view says of its scene.
-ghost use Rattle.std.specs.Prelude.{◌≡◌, ℕ, ◌^◌, ◌<◌, List, [], ◌∷◌, map, length, is_ok, Some, None, Ok, Err, Decides};
+ghost use Rattle.std.specs.Prelude.{◌≡◌, [], ◌∷◌, length, is_ok, Some, None, Ok, Err, Decides};
 ghost use Rattle.element.specs.Kinds.{kind_number};
 ghost use Rattle.scene.specs.Layout.{number_at, corners_of, start_of};
 ghost use Rattle.scene.specs.Views.{viewed, smallest};
