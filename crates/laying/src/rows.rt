@@ -3,7 +3,7 @@ ghost use Rattle.std.specs.Prelude.{◌≡◌, ℕ, ◌<◌, ◌≤◌, count_by
 ghost use Rattle.laying.specs.Rows.{flag};
 
 // Flags the numbers below n that pass the test.
-// Kept: a loop; `array::from_fn` says a record for each number, in which the search for a caller's proof ends.
+// Kept: a loop; tried with `array::from_fn`, whose clause is a record of 1,024 facts: a caller's search ends there.
 pub(crate) fn passing<F: Fn(usize) -> bool>(n: usize, test: F) -> [bool; 1024]
     requires few { n ≤ 1024 }
     requires callable { F.IsAlwaysCallable test }
