@@ -1,8 +1,15 @@
 -- The first broken rule of lists put together, and of a list for each number of a loop.
 use Rattle.std.proofs.Common.{◌≡◌, ℕ, suc, ◌+◌, ◌-◌, ◌<◌, true, false, cond, ◌&&◌, List, [], ◌∷◌, ◌++◌, is_ok}
-use Rattle.std.proofs.Common.{IsErrAnd, Ok, Err, Result, sym, refl, ap, ◌∙◌, arith}
-use Rattle.std.specs.List.{range_with_len, flat_map}
+use Rattle.std.proofs.Common.{◌≤◌, IsErrAnd, Ok, Err, Result, Option, None, Some, sym, refl, ap, ◌∙◌, arith, subst}
+use Rattle.std.specs.List.{FoldsTo, range_with_len, flat_map}
 use Rattle.std.proofs.lemmas.Result.{err_from_is_err_and}
+use Rattle.std.specs.Iterator.{Yields, TryForEachTurn, TryCallsOnEach}
+use Rattle.std.specs.Option.{MatchOption}
+use Rattle.std.specs.declared.ops.ControlFlow.{ControlFlow}
+use Rattle.std.specs.declared.ops.Range.{Range}
+use Rattle.std.specs.Range.{range_steps}
+use Rattle.std.specs.declared.ops.ControlFlow.TheVariants.{Continue, Break}
+use Rattle.std.specs.Fn.{Mut, Called}
 use Rattle.scene.specs.declared.fault.RecordFault.{RecordFault}
 use Rattle.scene.specs.declared.fault.SceneFault.{SceneFault}
 use Rattle.scene.specs.declared.fault.Broken.{Broken}
@@ -89,11 +96,55 @@ module _ {F : Type 0} (f : ℕ → List (Rule F)) where
       ap (λ n. verdict (flat_map f (range_with_len i n))) more
       ∙ verdict_append (f i) (flat_map f (range_with_len (i + 1) (k - (i + 1))))
 
--- a loop over those numbers, which is to come to v: one turn on, and its early exit
-module _ {F : Type 0} (f : ℕ → List (Rule F)) (i k : ℕ) (v : Verdict F) (left : from f i k ≡ v) where
-  pub turn_next : i < k → Ok tt ≡ verdict (f i) → from f (i + 1) k ≡ v
-  turn_next h ok = sym (from_more f i k h ∙ ap (λ w. after w (from f (i + 1) k)) (sym ok)) ∙ left
+-- the calls of `next` on a range of numbers
+abbrev counting : Range ℕ → Option ℕ → Range ℕ → Type 0
+counting = range_steps (λ i k. k - i) (λ i k. k ≡ i + 1)
 
-  pub turn_exit : i < k → (r : Verdict F) (e : F) → IsErrAnd r (λ y. y ≡ e) → Err e ≡ verdict (f i) → r ≡ v
-  turn_exit h r e out bad =
-      exit_is r e out ∙ sym (from_more f i k h ∙ ap (λ w. after w (from f (i + 1) k)) (sym bad)) ∙ left
+-- a check made for each number of a range, until one finds a fault, which r then is
+module _ {F E X : Type 0} (g : Mut F (ℕ × Unit {0}) (Verdict E)) (goes : Verdict E → ControlFlow X (Unit {0}) → Type 0)
+    (handed : X → Type 0) (f : F) (rules : ℕ → List (Rule E)) (r : Verdict E) where
+  -- a check goes on at no fault, and else hands over its fault, which r then is
+  abbrev GoesOn : Type 0
+  GoesOn = (v : Verdict E) → goes v (Continue tt) → v ≡ Ok tt
+
+  abbrev HandsOver : Type 0
+  HandsOver = (v : Verdict E) (x : X) → goes v (Break x) → handed x → (e : E) × (v ≡ Err e) × (r ≡ Err e)
+
+  -- each check leaves f as it was, and comes to its number's rules
+  abbrev Each : Range ℕ → Type 0
+  Each s = (n : ℕ) (v : Verdict E) (h : F) → s.start ≤ n → n < s.end → Called g f (n, tt) v h
+      → (h ≡ f) × (v ≡ verdict (rules n))
+
+  abbrev End : F → Option ℕ → Type 0
+  End q o = MatchOption o (goes r (Continue tt))
+      (λ x. (v : Verdict E) × (h : F) × (e : X) × Called g q (x, tt) v h × goes v (Break e) × handed e)
+
+  first_of : GoesOn → HandsOver → (xs : List ℕ) (s t u : Range ℕ) (q : F) (o : Option ℕ) → Yields counting s xs t
+      → counting t o u → FoldsTo (TryForEachTurn g goes) f xs q → End q o → Each s
+      → r ≡ from rules s.start s.end
+  first_of on off [] s t u q None y p c m each =
+      let none : s.end - s.start ≡ 0 = omega (arith, p.1.0, ap (λ k. k.start) y, ap (λ k. k.end) y) in
+      on r m ∙ sym (ap (λ n. verdict (flat_map rules (range_with_len s.start n))) none)
+  first_of on off [] s t u q (Some x) y p c m each =
+      let at : x ≡ s.start = p.1.1 ∙ ap (λ k. k.start) (sym y) in
+      let less : s.start < s.end = omega (arith, p.1.0, ap (λ k. k.start) y, ap (λ k. k.end) y) in
+      let call = subst (λ n. Called g q (n, tt) m.0 m.1) at m.3 in
+      let is = (each s.start m.0 m.1 (omega arith) less (subst (λ k. Called g k (s.start, tt) m.0 m.1) (sym c) call)).1 in
+      let fault = off m.0 m.2 m.4 m.5 in
+      fault.2
+      ∙ sym (from_more rules s.start s.end less
+      ∙ ap (λ w. after w (from rules (s.start + 1) s.end)) (sym is ∙ fault.1))
+  first_of on off (x ∷ xs) s t u q o y p c m each =
+      let less : s.start < s.end = omega (arith, y.1.1.0) in
+      let call = subst (λ n. Called g f (n, tt) c.1.0 c.0) y.1.1.1 c.1.1 in
+      let got = each s.start c.1.0 c.0 (omega arith) less call in
+      first_of on off xs y.0 t u q o y.2 p (subst (λ k. FoldsTo (TryForEachTurn g goes) k xs q) got.0 c.2) m
+      (λ n v h a b. each n v h (omega (arith, a, y.1.1.2)) (omega (arith, b, y.1.0)))
+      ∙ ap (λ k. from rules k y.0.end) y.1.1.2
+      ∙ ap (from rules (s.start + 1)) y.1.0
+      ∙ sym (from_more rules s.start s.end less
+      ∙ ap (λ w. after w (from rules (s.start + 1) s.end)) (sym got.1 ∙ on c.1.0 c.1.2))
+
+  pub tried_each : (s u : Range ℕ) → TryCallsOnEach counting g goes (λ x v. handed x) s f r u → GoesOn → HandsOver → Each s
+      → r ≡ from rules s.start s.end
+  tried_each s u d on off each = first_of on off d.0 s d.3.0 u d.2 d.1 d.3.1 d.3.2 d.4 d.5 each

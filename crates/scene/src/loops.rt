@@ -8,7 +8,7 @@ use std::ops::Range;
 // Makes a check for each number, up to the first fault. If each comes to a list of rules, all come to the lists
 // together.
 pub(crate) fn first_fault<E, F: Fn(u16) -> Result<(), E>>(
-    numbers: Range<u16>,
+    mut numbers: Range<u16>,
     check: F,
 ) -> Result<(), E>
     requires { (n : ℕ) → numbers.start ≤ n → n < numbers.end → F.pre check n }
@@ -16,8 +16,5 @@ pub(crate) fn first_fault<E, F: Fn(u16) -> Result<(), E>>(
         → ((n : ℕ) (found : _) → numbers.start ≤ n → n < numbers.end → F.post check n found → found ≡ verdict (rules n))
         → result ≡ verdict (flat_map rules (range_with_len numbers.start (numbers.end - numbers.start))) }
 {
-    for n in numbers.start..numbers.end {
-        check(n)?;
-    }
-    Ok(())
+    numbers.try_for_each(check)
 }

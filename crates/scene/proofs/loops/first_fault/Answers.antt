@@ -1,23 +1,19 @@
--- Each turn tries the rules of one number.
-use Rattle.std.proofs.Common.{◌+◌, ◌≤◌, arith, Ok, Err}
-use Rattle.scene.proofs.Verdicts.{turn_next, turn_exit}
+-- A check leaves itself as it was, so each number's check comes to that number's rules.
+use Rattle.std.proofs.Common.{rules, ◌≡◌, IsErr, IsErrAnd}
+use Rattle.std.specs.Result.{result_from_control_flow}
+use Rattle.std.proofs.lemmas.Iterator.{serves_from_Range}
+use Rattle.scene.proofs.Verdicts.{tried_each, exit_is}
 use Rattle.scene.proofs.loops.first_fault.Goals as goal
 
-pub loop-n-preserved : goal.loop-n-preserved
-loop-n-preserved g c =
-    let n = c.loop-n.n in
-    let further : c.args.numbers.start ≤ n + 1 = omega (arith, c.loop-n.invariant.0) in (
-      further,
-      λ rules each.
-          turn_next rules n c.args.numbers.end _ (c.loop-n.invariant.1 rules each) c.loop-n-test.true
-          (each n (Ok tt) c.loop-n.invariant.0 c.loop-n-test.true c.in_ok-check.ensures),
-    )
+pub try_for_each-requires-clause-callable : goal.try_for_each-requires-clause-callable
+try_for_each-requires-clause-callable g c =
+    serves_from_Range (λ x q k. g.met.F.Fn.1.step_stays _ _ _ _ k.1) (λ x low high. search rules)
 
-pub returns-in_err-check : goal.returns-in_err-check
-returns-in_err-check g c =
-    let n = c.loop-n.n in
-    let bad = c.in_err-check in
+pub returns : goal.returns
+returns g c =
+    let found = c.try_for_each.result in
     λ rules each.
-    turn_exit rules n c.args.numbers.end _ (c.loop-n.invariant.1 rules each) c.loop-n-test.true
-    c.from_residual.result bad.field-0.0 c.from_residual.ensures.1
-    (each n (Err bad.field-0.0) c.loop-n.invariant.0 c.loop-n-test.true bad.ensures)
+    tried_each _ (λ v so. v ≡ result_from_control_flow so) (λ x. IsErr found × IsErrAnd found (λ y. y ≡ x.0)) c.args.check
+    rules found c.args.numbers _ c.try_for_each.ensures.ran (λ v so. so) (λ v x so out. (x.0, so, exit_is found x.0 out.1))
+    (λ n v h a b k.
+    (g.met.F.Fn.1.step_stays _ _ _ _ k, each n v a b ((g.met.F.FnMut.1.post_iff _ _ _).1 (h, k))))
