@@ -20,6 +20,7 @@ struct Link<'a> {
 
 impl Link<'_> {
     // Whether the leaf board has a ghost of v whose root is on the root board.
+    // Kept: the bound of a vertex's number, here and in two more; a type for such numbers would be no plainer.
     fn is_ghost(&self, v: usize) -> bool
         requires { v < 1024 }
         ensures { result ≡ ghost_at self.now.tables.now self.now.from self.now.to v }

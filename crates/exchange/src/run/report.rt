@@ -12,6 +12,7 @@ use protocol::table::LinkTable;
 use protocol::tally::Report;
 
 // How many items board p lacks from board q.
+// Kept: the bound of a board's number, here and in the two below; a type for such numbers would be no plainer.
 fn lacking(plan: &PlanView, table: &LinkTable, p: usize, q: usize) -> usize
     requires { (p < 8) × (q < 8) }
     ensures { result ≡ lacks (shape plan.now.boards plan.now.edges.now)
