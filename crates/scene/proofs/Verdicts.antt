@@ -129,7 +129,8 @@ module _ {F E X : Type 0} (g : Mut F (ℕ × Unit {0}) (Verdict E)) (goes : Verd
       let at : x ≡ s.start = p.1.1 ∙ ap (λ k. k.start) (sym y) in
       let less : s.start < s.end = omega (arith, p.1.0, ap (λ k. k.start) y, ap (λ k. k.end) y) in
       let call = subst (λ n. Called g q (n, tt) m.0 m.1) at m.3 in
-      let is = (each s.start m.0 m.1 (omega arith) less (subst (λ k. Called g k (s.start, tt) m.0 m.1) (sym c) call)).1 in
+      let here = subst (λ k. Called g k (s.start, tt) m.0 m.1) (sym c) call in
+      let is = (each s.start m.0 m.1 (omega arith) less here).1 in
       let fault = off m.0 m.2 m.4 m.5 in
       fault.2
       ∙ sym (from_more rules s.start s.end less
@@ -145,6 +146,7 @@ module _ {F E X : Type 0} (g : Mut F (ℕ × Unit {0}) (Verdict E)) (goes : Verd
       ∙ sym (from_more rules s.start s.end less
       ∙ ap (λ w. after w (from rules (s.start + 1) s.end)) (sym got.1 ∙ on c.1.0 c.1.2))
 
-  pub tried_each : (s u : Range ℕ) → TryCallsOnEach counting g goes (λ x v. handed x) s f r u → GoesOn → HandsOver → Each s
+  pub tried_each : (s u : Range ℕ) → TryCallsOnEach counting g goes (λ x v. handed x) s f r u
+      → GoesOn → HandsOver → Each s
       → r ≡ from rules s.start s.end
   tried_each s u d on off each = first_of on off d.0 s d.3.0 u d.2 d.1 d.3.1 d.3.2 d.4 d.5 each

@@ -13,7 +13,8 @@ pub returns : goal.returns
 returns g c =
     let found = c.try_for_each.result in
     λ rules each.
-    tried_each _ (λ v so. v ≡ result_from_control_flow so) (λ x. IsErr found × IsErrAnd found (λ y. y ≡ x.0)) c.args.check
-    rules found c.args.numbers _ c.try_for_each.ensures.ran (λ v so. so) (λ v x so out. (x.0, so, exit_is found x.0 out.1))
+    tried_each _ (λ v so. v ≡ result_from_control_flow so) (λ x. IsErr found × IsErrAnd found (λ y. y ≡ x.0))
+    c.args.check rules found c.args.numbers _ c.try_for_each.ensures.ran (λ v so. so)
+    (λ v x so out. (x.0, so, exit_is found x.0 out.1))
     (λ n v h a b k.
     (g.met.F.Fn.1.step_stays _ _ _ _ k, each n v a b ((g.met.F.FnMut.1.post_iff _ _ _).1 (h, k))))
