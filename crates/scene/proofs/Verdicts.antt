@@ -1,14 +1,15 @@
--- The first broken rule of lists put together, and of a list for each number of a loop.
+-- The first broken rule of lists put together, and of a list for each number of a range.
 use Rattle.std.proofs.Common.{◌≡◌, ℕ, suc, ◌+◌, ◌-◌, ◌<◌, true, false, cond, ◌&&◌, List, [], ◌∷◌, ◌++◌, is_ok}
-use Rattle.std.proofs.Common.{◌≤◌, IsErrAnd, Ok, Err, Result, Option, None, Some, sym, refl, ap, ◌∙◌, arith, subst}
+use Rattle.std.proofs.Common.{◌≤◌, IsErr, IsErrAnd, Ok, Err, Result, Option, None, Some}
+use Rattle.std.proofs.Common.{sym, refl, ap, subst, ◌∙◌, arith}
 use Rattle.std.specs.List.{FoldsTo, range_with_len, flat_map}
 use Rattle.std.proofs.lemmas.Result.{err_from_is_err_and}
 use Rattle.std.specs.Iterator.{Yields, TryForEachTurn, TryCallsOnEach}
 use Rattle.std.specs.Option.{MatchOption}
-use Rattle.std.specs.declared.ops.ControlFlow.{ControlFlow}
+use Rattle.std.specs.Result.{result_from_control_flow}
 use Rattle.std.specs.declared.ops.Range.{Range}
 use Rattle.std.specs.Range.{range_steps}
-use Rattle.std.specs.declared.ops.ControlFlow.TheVariants.{Continue, Break}
+use Rattle.std.specs.declared.ops.ControlFlow.TheVariants.{Break}
 use Rattle.std.specs.Fn.{Mut, Called}
 use Rattle.scene.specs.declared.fault.RecordFault.{RecordFault}
 use Rattle.scene.specs.declared.fault.SceneFault.{SceneFault}
@@ -101,52 +102,49 @@ abbrev counting : Range ℕ → Option ℕ → Range ℕ → Type 0
 counting = range_steps (λ i k. k - i) (λ i k. k ≡ i + 1)
 
 -- a check made for each number of a range, until one finds a fault, which r then is
-module _ {F E X : Type 0} (g : Mut F (ℕ × Unit {0}) (Verdict E)) (goes : Verdict E → ControlFlow X (Unit {0}) → Type 0)
-    (handed : X → Type 0) (f : F) (rules : ℕ → List (Rule E)) (r : Verdict E) where
-  -- a check goes on at no fault, and else hands over its fault, which r then is
-  abbrev GoesOn : Type 0
-  GoesOn = (v : Verdict E) → goes v (Continue tt) → v ≡ Ok tt
-
-  abbrev HandsOver : Type 0
-  HandsOver = (v : Verdict E) (x : X) → goes v (Break x) → handed x → (e : E) × (v ≡ Err e) × (r ≡ Err e)
-
+module _ {F E : Type 0} (g : Mut F (ℕ × Unit {0}) (Verdict E)) (f : F) (rules : ℕ → List (Rule E)) (r : Verdict E) where
   -- each check leaves f as it was, and comes to its number's rules
   abbrev Each : Range ℕ → Type 0
-  Each s = (n : ℕ) (v : Verdict E) (h : F) → s.start ≤ n → n < s.end → Called g f (n, tt) v h
+  Each s =
+      (n : ℕ) (v : Verdict E) (h : F) → s.start ≤ n → n < s.end → Called g f (n, tt) v h
       → (h ≡ f) × (v ≡ verdict (rules n))
 
-  abbrev End : F → Option ℕ → Type 0
-  End q o = MatchOption o (goes r (Continue tt))
-      (λ x. (v : Verdict E) × (h : F) × (e : X) × Called g q (x, tt) v h × goes v (Break e) × handed e)
+  abbrev Passes : F → ℕ → F → Type 0
+  Passes = TryForEachTurn g (λ v c. v ≡ result_from_control_flow c)
 
-  first_of : GoesOn → HandsOver → (xs : List ℕ) (s t u : Range ℕ) (q : F) (o : Option ℕ) → Yields counting s xs t
-      → counting t o u → FoldsTo (TryForEachTurn g goes) f xs q → End q o → Each s
-      → r ≡ from rules s.start s.end
-  first_of on off [] s t u q None y p c m each =
+  abbrev End : F → Option ℕ → Type 0
+  End q o =
+      MatchOption o (r ≡ Ok tt)
+      (λ n. (v : Verdict E) × (h : F) × (x : _) × Called g q (n, tt) v h × (v ≡ result_from_control_flow (Break x))
+      × (IsErr r × IsErrAnd r (λ y. y ≡ x.0)))
+
+  first_of : (xs : List ℕ) (s t u : Range ℕ) (q : F) (o : Option ℕ) → Yields counting s xs t → counting t o u
+      → FoldsTo Passes f xs q → End q o → Each s → r ≡ from rules s.start s.end
+  first_of [] s t u q None y p c m each =
       let none : s.end - s.start ≡ 0 = omega (arith, p.1.0, ap (λ k. k.start) y, ap (λ k. k.end) y) in
-      on r m ∙ sym (ap (λ n. verdict (flat_map rules (range_with_len s.start n))) none)
-  first_of on off [] s t u q (Some x) y p c m each =
+      m ∙ sym (ap (λ n. verdict (flat_map rules (range_with_len s.start n))) none)
+  first_of [] s t u q (Some x) y p c m each =
       let at : x ≡ s.start = p.1.1 ∙ ap (λ k. k.start) (sym y) in
       let less : s.start < s.end = omega (arith, p.1.0, ap (λ k. k.start) y, ap (λ k. k.end) y) in
       let call = subst (λ n. Called g q (n, tt) m.0 m.1) at m.3 in
-      let here = subst (λ k. Called g k (s.start, tt) m.0 m.1) (sym c) call in
-      let is = (each s.start m.0 m.1 (omega arith) less here).1 in
-      let fault = off m.0 m.2 m.4 m.5 in
-      fault.2
+      let same = subst (λ k. Called g k (s.start, tt) m.0 m.1) (sym c) call in
+      let is = (each s.start m.0 m.1 (omega arith) less same).1 in
+      exit_is r _ m.5.1
       ∙ sym (from_more rules s.start s.end less
-      ∙ ap (λ w. after w (from rules (s.start + 1) s.end)) (sym is ∙ fault.1))
-  first_of on off (x ∷ xs) s t u q o y p c m each =
+      ∙ ap (λ w. after w (from rules (s.start + 1) s.end)) (sym is ∙ m.4))
+  first_of (x ∷ xs) s t u q o y p c m each =
       let less : s.start < s.end = omega (arith, y.1.1.0) in
       let call = subst (λ n. Called g f (n, tt) c.1.0 c.0) y.1.1.1 c.1.1 in
       let got = each s.start c.1.0 c.0 (omega arith) less call in
-      first_of on off xs y.0 t u q o y.2 p (subst (λ k. FoldsTo (TryForEachTurn g goes) k xs q) got.0 c.2) m
+      first_of xs y.0 t u q o y.2 p (subst (λ k. FoldsTo Passes k xs q) got.0 c.2) m
       (λ n v h a b. each n v h (omega (arith, a, y.1.1.2)) (omega (arith, b, y.1.0)))
       ∙ ap (λ k. from rules k y.0.end) y.1.1.2
       ∙ ap (from rules (s.start + 1)) y.1.0
       ∙ sym (from_more rules s.start s.end less
-      ∙ ap (λ w. after w (from rules (s.start + 1) s.end)) (sym got.1 ∙ on c.1.0 c.1.2))
+      ∙ ap (λ w. after w (from rules (s.start + 1) s.end)) (sym got.1 ∙ c.1.2))
 
-  pub tried_each : (s u : Range ℕ) → TryCallsOnEach counting g goes (λ x v. handed x) s f r u
-      → GoesOn → HandsOver → Each s
-      → r ≡ from rules s.start s.end
-  tried_each s u d on off each = first_of on off d.0 s d.3.0 u d.2 d.1 d.3.1 d.3.2 d.4 d.5 each
+  pub tried_each : (s u : Range ℕ)
+      → TryCallsOnEach counting g (λ v c. v ≡ result_from_control_flow c)
+      (λ x w. IsErr w × IsErrAnd w (λ y. y ≡ x.0)) s f r u
+      → Each s → r ≡ from rules s.start s.end
+  tried_each s u d each = first_of d.0 s d.3.0 u d.2 d.1 d.3.1 d.3.2 d.4 d.5 each

@@ -1,8 +1,7 @@
 -- A check leaves itself as it was, so each number's check comes to that number's rules.
-use Rattle.std.proofs.Common.{rules, ◌≡◌, IsErr, IsErrAnd}
-use Rattle.std.specs.Result.{result_from_control_flow}
+use Rattle.std.proofs.Common.{rules}
 use Rattle.std.proofs.lemmas.Iterator.{serves_from_Range}
-use Rattle.scene.proofs.Verdicts.{tried_each, exit_is}
+use Rattle.scene.proofs.Verdicts.{tried_each}
 use Rattle.scene.proofs.loops.first_fault.Goals as goal
 
 pub try_for_each-requires-clause-callable : goal.try_for_each-requires-clause-callable
@@ -11,10 +10,7 @@ try_for_each-requires-clause-callable g c =
 
 pub returns : goal.returns
 returns g c =
-    let found = c.try_for_each.result in
     λ rules each.
-    tried_each _ (λ v so. v ≡ result_from_control_flow so) (λ x. IsErr found × IsErrAnd found (λ y. y ≡ x.0))
-    c.args.check rules found c.args.numbers _ c.try_for_each.ensures.ran (λ v so. so)
-    (λ v x so out. (x.0, so, exit_is found x.0 out.1))
+    tried_each _ c.args.check rules c.try_for_each.result c.args.numbers _ c.try_for_each.ensures.ran
     (λ n v h a b k.
     (g.met.F.Fn.1.step_stays _ _ _ _ k, each n v a b ((g.met.F.FnMut.1.post_iff _ _ _).1 (h, k))))
