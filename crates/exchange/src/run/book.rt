@@ -28,7 +28,11 @@ pub fn report_by_the_book<E: Element>(
         → InEveryRun E.Element.algebra s turning.now.tally table.now.links
         (ReportsTheBook E.Element.algebra s board result) }
 {
-    turning.report(plan, table, board)
+    // Kept: by cases, which the proof takes one by one, so that a wrong case shows here.
+    match turning.report(plan, table, board) {
+        Ok(report) => Ok(report),
+        Err(fault) => Err(fault),
+    }
 }
 
 // Ends the run exactly if every board is settled, in every run as the book says; answers its tally.

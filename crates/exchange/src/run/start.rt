@@ -1,5 +1,5 @@
 // From loaded to turning.
-ghost use Rattle.std.specs.Prelude.{◌≡◌, ℕ, ◌/◌, ◌%◌, ◌<◌, ◌≤◌, [], replicate, Ok, Err};
+ghost use Rattle.std.specs.Prelude.{◌≡◌, ℕ, ◌/◌, ◌%◌, [], length, replicate, Ok, Err, nat_lt};
 ghost use Rattle.scene.specs.Cells.{Scene};
 ghost use Rattle.protocol.specs.Books.{blank};
 ghost use Rattle.protocol.specs.Runs.{no_link, no_tally};
@@ -15,6 +15,13 @@ use protocol::fault::RunFault;
 use protocol::table::{Link, LinkTable};
 use protocol::tally::Tally;
 
+// Whether a frame waits in the lane with this number.
+fn waits<D: Medium>(medium: &D, lane: usize) -> bool
+    ensures { result ≡ nat_lt 0 (length (D.Medium.lanes medium.now (lane / 8) (lane % 8))) }
+{
+    medium.waiting(lane / 8, lane % 8) > 0
+}
+
 // Refuses if a frame waits somewhere, with the first such lane.
 fn check_idle<D: Medium>(medium: &D) -> Result<(), RunFault>
     ensures { elim result [
@@ -22,7 +29,7 @@ fn check_idle<D: Medium>(medium: &D) -> Result<(), RunFault>
       | Err f ↦ WaitingFault (D.Medium.lanes medium.now) f
     ] }
 {
-    match (0..64).find(|&k| medium.waiting(k / 8, k % 8) > 0) {
+    match (0..64).find(|&k| waits(medium, k)) {
         Some(k) => Err(RunFault::Waiting {
             from: k / 8,
             to: k % 8,

@@ -1,5 +1,5 @@
 -- The first lane in which a frame waits, or none up to the last.
-use Rattle.std.proofs.Common.{◌≡◌, ℕ, ◌/◌, ◌%◌, ◌<◌, Bool, true, false, ltb, length, Some, None, refl, rules, arith}
+use Rattle.std.proofs.Common.{◌≡◌, ℕ, ◌/◌, ◌%◌, Bool, true, false, ltb, length, Some, None, refl, rules, arith}
 use borrow.Author.Tests.{tests}
 use Rattle.std.proofs.lemmas.Bool.{ltb-true, ltb-false}
 use Rattle.std.proofs.lemmas.Iterator.{first_from_Range}
