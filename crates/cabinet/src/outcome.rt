@@ -95,6 +95,7 @@ impl<'a, E: Element> Run<'a, E> {
             (told_by self.now.outcome self.now.plan.now.boards self.now.plan.now.edges.now self.now.table.now.links)
             self.now.plan.now.copies.now self.now.values.now self.now.plan.now.boards) }
     {
+        // Kept: a `for` over boards' numbers; there is no slice of boards.
         for board in 0..self.plan.boards() {
             self.add_board(page, board)?;
         }

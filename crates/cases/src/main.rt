@@ -13,6 +13,7 @@ use std::{env, fs, io};
 const LINES: usize = 12;
 
 // Where the first n lines end.
+// Kept: counted down; `nth` over the newlines would want n to be at least 1, and the place behind.
 fn lines_end(page: &[u8], n: usize) -> usize {
     let mut left = n;
     for (k, byte) in page.iter().enumerate() {

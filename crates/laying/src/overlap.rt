@@ -75,6 +75,7 @@ fn layers(scene: &SceneView, p: usize, m: usize) -> [bool; 1024]
         (λ c. overlaps (viewed scene.now).cells p m (cell_of scene.now c)) }
 {
     let mut inside = own_cells(scene, p);
+    // Kept: a `for` that repeats; each layer is made of the one before.
     for _layer in 0..m {
         inside = take_in(scene, &mark(scene, &inside));
     }

@@ -40,6 +40,7 @@ pub(crate) fn owners(scene: &SceneView) -> [Option<u8>; 1024]
         → slice_index_or result v None ≡ owning (viewed scene.now) v }
 {
     let mut owners = [None; 1024];
+    // Kept: a `for` over boards' numbers; there is no slice of boards.
     for p in 0..scene.boards() {
         let mine = own_vertices(scene, p);
         settle(&mut owners, &mine, p as u8);

@@ -97,7 +97,8 @@ pub(crate) fn set_own_sums<E: Element>(scene: &SceneView, plan: &PlanView, copie
         ++ drop (length plan.now.copies.now) copies.old }
 {
     let sums = OwnSums::of_scene(scene);
-    // Kept: written by the record's number, since of `iter_mut` under a `zip` a proof knows only the length.
+    // Kept: written by the record's number; `iter_mut` with the records by number is no plainer, and under a `zip` a
+    // proof knows only the length.
     for (n, record) in plan.copies().iter().enumerate() {
         copies[n] = sums.of_copy(*record);
     }

@@ -118,6 +118,7 @@ impl BoardView<'_> {
             accepted: 0,
             got: [false; 8],
         };
+        // Kept: a `for` over boards' numbers; there is no slice of boards.
         for q in 0..self.plan.boards() {
             if q != self.board {
                 take_lane(

@@ -130,6 +130,7 @@ impl BoardView<'_> {
     {
         let gathered = self.has_gathered(table);
         let mut puts = Puts { made: 0, lost: 0 };
+        // Kept: a `for` over boards' numbers; there is no slice of boards.
         for q in 0..self.plan.boards() {
             if q == self.board {
                 continue;

@@ -192,7 +192,7 @@ fn show_totals<'a, E: Element>(
       | Err f ↦ Unit {0}
     ] }
 {
-    // Kept: taken apart and put together again, since the proof speaks of copies that are shown.
+    // Kept: taken apart and put together again; without that the clause on what is shown stays open.
     let shown = ended.show(plan, copies, board)?;
     Ok(shown)
 }

@@ -47,7 +47,7 @@ impl Turning {
         Ok((Ended { tally }, tally))
     }
 
-    // Kept: three states are left by three names, here and below; generic code could let one go unseen.
+    // Kept: three states are left by three names, here and below: each is taken apart by its own pattern.
     // Gives the run up, whatever its state; answers its tally.
     pub fn abandon(self) -> Tally
         ensures { result ≡ self.tally }
