@@ -5,10 +5,14 @@ use Rattle.protocol.specs.declared.table.Link.{Link}
 use Rattle.protocol.specs.declared.tally.Report.{Report}
 use Rattle.protocol.specs.declared.tally.Report.TheVariants.{Settled}
 use Rattle.cabinet.specs.Pages.{reports}
+use Rattle.cabinet.specs.declared.outcome.Run.{Run}
 use Rattle.cabinet.specs.declared.outcome.Outcome.{Outcome}
 use Rattle.cabinet.specs.declared.outcome.Outcome.TheVariants.{Ended, Open}
 
--- all boards of an ended run are settled; of one that goes on, the table tells
-abbrev pub told_by : Outcome → ℕ → List Edge → List Link → ℕ → Report
+abbrev told_by : Outcome → ℕ → List Edge → List Link → ℕ → Report
 told_by (Ended run) boards edges links p = Settled
 told_by (Open run) boards edges links p = reports boards edges links p
+
+-- all boards of an ended run are settled; of one that goes on, the table tells
+abbrev pub told : {E : Type 0} → Run E → ℕ → Report
+told r = told_by r.outcome r.plan.now.boards r.plan.now.edges.now r.table.now.links

@@ -28,7 +28,7 @@ use scene::view::SceneView;
 use std::alloc::{AllocError, Global};
 
 // How many records and copies there is memory for, and how many circles are made at most.
-// Kept: arrays of this length, one for each element type, since an array of a type parameter is not shown to fit.
+// Kept: arrays of this length, one for each element type. Tried with a type parameter: that the array fits stays open.
 const MEMORY: usize = 4096;
 
 const CIRCLES: usize = 100000;

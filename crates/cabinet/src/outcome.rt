@@ -2,7 +2,6 @@
 ghost use Rattle.std.specs.Prelude.{◌≡◌, ◌<◌, ◌≤◌, ◌++◌, length, IfOk, OnOk};
 ghost use Rattle.plan.specs.Starts.{values_on};
 ghost use Rattle.cabinet.specs.Pages.{boards_page, head_page, page_of};
-ghost use Rattle.cabinet.specs.Told.{told_by};
 
 use crate::page::{add_board, add_line};
 use element::element::Element;
@@ -40,11 +39,12 @@ fn add_head(page: &mut Vec<u8>, numbers: PlanNumbers, tally: Tally) -> Result<()
 }
 
 impl<'a, E: Element> Run<'a, E> {
+    ghost use Rattle.cabinet.specs.Told.{told};
+
     // Kept: the bound of a board's number, here and in the two below; a type for such numbers would be no plainer.
     fn report(&self, board: usize) -> Report
         requires { board < self.now.plan.now.boards }
-        ensures { result ≡ told_by self.now.outcome self.now.plan.now.boards self.now.plan.now.edges.now
-            self.now.table.now.links board }
+        ensures { result ≡ told self.now board }
     {
         match self.outcome {
             Outcome::Ended(_) => Report::Settled,
@@ -81,7 +81,7 @@ impl<'a, E: Element> Run<'a, E> {
         requires { board < self.now.plan.now.boards }
         ensures { OnOk result (page.new.items ≡ page.old.items
             ++ page_of E.Element.algebra
-            (told_by self.now.outcome self.now.plan.now.boards self.now.plan.now.edges.now self.now.table.now.links)
+            (told self.now)
             self.now.plan.now.copies.now self.now.values.now board) }
     {
         let part = self.plan.board_part(board);
@@ -92,7 +92,7 @@ impl<'a, E: Element> Run<'a, E> {
     fn add_boards(&self, page: &mut Vec<u8>) -> Result<(), AllocError>
         ensures { OnOk result (page.new.items ≡ page.old.items
             ++ boards_page E.Element.algebra
-            (told_by self.now.outcome self.now.plan.now.boards self.now.plan.now.edges.now self.now.table.now.links)
+            (told self.now)
             self.now.plan.now.copies.now self.now.values.now self.now.plan.now.boards) }
     {
         // Kept: a `for` over boards' numbers; there is no slice of boards.
@@ -110,7 +110,7 @@ impl<'a, E: Element> Run<'a, E> {
     ) -> Result<Vec<u8>, AllocError>
         ensures { IfOk result (λ page. page.items ≡ head_page numbers tally
             ++ boards_page E.Element.algebra
-            (told_by self.now.outcome self.now.plan.now.boards self.now.plan.now.edges.now self.now.table.now.links)
+            (told self.now)
             self.now.plan.now.copies.now self.now.values.now self.now.plan.now.boards) }
     {
         let mut page = Vec::new(heap);

@@ -11,12 +11,13 @@ use Rattle.plan.specs.declared.records.Edge.{Edge}
 abbrev pub row : List (List Bool) → ℕ → List Bool
 row table p = slice_index_or table p []
 
+-- board p's copy of v
 abbrev pub copy_record : ℕ → ℕ → CopyRecord
 copy_record p v = record { board = p; vertex = v }
 
--- board p's copy of v, if it keeps one
+-- the same, if it keeps one
 abbrev pub copy_at : List Bool → ℕ → ℕ → List CopyRecord
-copy_at keep p v = only (flag keep v) (record { board = p; vertex = v })
+copy_at keep p v = only (flag keep v) (copy_record p v)
 
 -- the copies of board p, of n vertices
 abbrev pub row_copies : List Bool → ℕ → ℕ → List CopyRecord
