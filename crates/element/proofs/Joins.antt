@@ -17,17 +17,6 @@ module _ {E : Type 0} (A : Algebra E) (L : Lawful A) where
   pub swap_last : (a x y : E) → A.join (A.join a x) y ≡ A.join (A.join a y) x
   swap_last a x y = L.join_assoc a x y ∙ ap (A.join a) (L.join_comm x y) ∙ sym (L.join_assoc a y x)
 
-  pub swap_first : (a b c : E) → A.join a (A.join b c) ≡ A.join b (A.join a c)
-  swap_first a b c = sym (L.join_assoc a b c) ∙ ap (λ x. A.join x c) (L.join_comm a b) ∙ L.join_assoc b a c
-
-  -- the middle two of four change places
-  pub swap_middle : (a b c d : E)
-      → A.join (A.join a b) (A.join c d) ≡ A.join (A.join a c) (A.join b d)
-  swap_middle a b c d =
-      L.join_assoc a b (A.join c d)
-      ∙ ap (A.join a) (swap_first b c d)
-      ∙ sym (L.join_assoc a c (A.join b d))
-
   pub join_all_append : (xs ys : List E) → join_all A (xs ++ ys) ≡ A.join (join_all A xs) (join_all A ys)
   join_all_append [] ys = sym (L.zero_join (join_all A ys))
   join_all_append (x ∷ xs) ys =
@@ -44,10 +33,6 @@ module _ {E : Type 0} (A : Algebra E) (L : Lawful A) where
   join_below_zeros zero = refl
   join_below_zeros (suc n) = ap (λ x. A.join x A.zero) (join_below_zeros n) ∙ L.zero_join A.zero
 
-  -- summands that are all zero
-  pub join_below_zero : (n : ℕ) (f : ℕ → E) → ((k : ℕ) → k < n → f k ≡ A.zero) → join_below A n f ≡ A.zero
-  join_below_zero n f h = join_below_same A n f (λ _. A.zero) h ∙ join_below_zeros n
-
   -- the summand at k grows by x, and so does the join
   pub join_below_bump : (n : ℕ) (f f' : ℕ → E) (k : ℕ) (x : E) → k < n → f' k ≡ A.join (f k) x
       → ((m : ℕ) → m ≢ k → f' m ≡ f m) → join_below A n f' ≡ A.join (join_below A n f) x
@@ -62,11 +47,3 @@ module _ {E : Type 0} (A : Algebra E) (L : Lawful A) where
         ap₂ A.join (join_below_bump n f f' k x (omega arith) e h) (h n (omega arith))
         ∙ swap_last (join_below A n f) x (f n)
   ]
-
-  -- joined summand by summand
-  pub join_below_join : (n : ℕ) (f g : ℕ → E)
-      → join_below A n (λ k. A.join (f k) (g k)) ≡ A.join (join_below A n f) (join_below A n g)
-  join_below_join zero f g = sym (L.zero_join A.zero)
-  join_below_join (suc n) f g =
-      ap (λ x. A.join x (A.join (f n) (g n))) (join_below_join n f g)
-      ∙ swap_middle (join_below A n f) (join_below A n g) (f n) (g n)

@@ -1,6 +1,7 @@
 // The trait of elements: a commutative monoid that packs into three words.
-ghost use Rattle.std.specs.Prelude.{◌≡◌, ℕ};
+ghost use Rattle.std.specs.Prelude.{◌≡◌, ℕ, true};
 ghost use Rattle.element.specs.Algebra.{Algebra, Lawful};
+ghost use Rattle.element.specs.Kinds.{is_kind, used_by};
 
 use crate::words::Words;
 
@@ -30,7 +31,9 @@ pub trait Element: Copy {
     fn unpack(words: Words) -> Self
         ensures { result ≡ algebra.unpack words };
 
-    ghost numbered: { (algebra.kind ≡ KIND) × (algebra.used ≡ USED) };
+    // A kind that a scene's header can name uses as many words as a scene of that kind may.
+    ghost numbered: { (algebra.kind ≡ KIND) × (algebra.used ≡ USED)
+        × (is_kind KIND ≡ true → used_by KIND ≡ USED) };
 
     ghost lawful: { Lawful algebra };
 

@@ -112,14 +112,6 @@ module _ {M : Type 0} (A : Algebra M) (law : Lawful A) (s : Scene) where
       let (book₂, losses₂, l) = d (ts ++ us) book₁ losses₁ k.run in
       (book₂, losses₂, subst (λ ws. Kept A s ws m₂ book₂ losses₂) (append_assoc ts us vs) l)
 
-  -- a call that leaves every run where it is
-  pub carried_still : (m m₁ m₂ : Moment M) (us : List ℕ) → Carried A s m m₁ us
-      → ((ts : List ℕ) (book : Book) (losses : ℕ) → Run A s ts m₁ book losses → Kept A s ts m₂ book losses)
-      → Carried A s m m₂ us
-  carried_still m m₁ m₂ us c d ts book losses r =
-      let (book₁, losses₁, k) = c ts book losses r in
-      (book₁, losses₁, d (ts ++ us) book₁ losses₁ k.run)
-
 -- copies as loading sets them, by a laid plan, hold their boards' own sums
 pub own_sums_from_load : {M : Type 0} (A : Algebra M) (s : Scene) (records : List CopyRecord) (memory memory' : List M)
     → records ≡ laid_copies s → memory' ≡ loaded_copies A s records ++ drop (length records) memory → OwnSums A s

@@ -1,5 +1,5 @@
 -- The laid copies: each stands at its number, and they rise by board, then vertex.
-use Rattle.std.proofs.Common.{◌≡◌, ℕ, suc, ◌+◌, ◌<◌, true, ◌⊎◌, List, ◌∷◌, ◌++◌, map, length, get_or, filter, sym}
+use Rattle.std.proofs.Common.{◌≡◌, ℕ, ◌+◌, ◌<◌, true, ◌⊎◌, List, ◌∷◌, ◌++◌, map, length, get_or, filter, sym}
 use Rattle.std.proofs.Common.{refl, ap, ◌∙◌, inl, inr, arith}
 use Rattle.std.specs.List.{range_with_len, AllByRecursion}
 use Rattle.std.proofs.lemmas.List.{append_assoc, map-append, length-append, length-map, get_or_at}
@@ -8,7 +8,7 @@ use Rattle.plan.specs.declared.records.CopyRecord.{CopyRecord}
 use Rattle.plan.specs.Links.{no_copy}
 use Rattle.scene.specs.Cells.{Scene}
 use Rattle.forest.specs.Forest.{keeps, copies_of, copies_before, laid_copies, number}
-use Rattle.forest.proofs.Filters.{kept_within, kept_cut, joined_cut, joined_next, all_joined}
+use Rattle.forest.proofs.Filters.{kept_within, kept_cut, joined_cut, all_joined}
 use Rattle.forest.proofs.Members.{all_given}
 use Rattle.forest.proofs.Ordered.{Ordered, ordered_kept, ordered_map, ordered_joined, ordered_once, ordered_counting}
 
@@ -109,7 +109,3 @@ module _ (s : Scene) where
       let same : copy p v ≡ copy q w =
       sym (number_at p v pb vb h) ∙ ap (λ c. get_or (laid_copies s) c no_copy) e ∙ number_at q w qb wb k in
       (ap (λ r. r.board) same, ap (λ r. r.vertex) same)
-
-  -- the copies of one board more
-  pub copies_before_next : (p : ℕ) → copies_before s (suc p) ≡ copies_before s p ++ copies_of s p
-  copies_before_next p = joined_next (copies_of s) p

@@ -95,9 +95,3 @@ module _ {X : Type 0} where
 pub among_map : {X Y : Type 0} (f : X → Y) (xs : List X) (x : X) → Among x xs → Among (f x) (map f xs)
 among_map f [] x m = absurd m
 among_map f (y ∷ ys) x m = elim m [ inl e ↦ inl (ap f e) | inr k ↦ inr (among_map f ys x k) ]
-
-pub get_d_map : {X Y : Type 0} (f : X → Y) (xs : List X) (m : ℕ) (d : X) (e : Y) → m < length xs
-    → get_or (map f xs) m e ≡ f (get_or xs m d)
-get_d_map f [] m d e l = absurd (omega arith)
-get_d_map f (x ∷ xs) zero d e l = refl
-get_d_map f (x ∷ xs) (suc m) d e l = get_d_map f xs m d e (omega arith)

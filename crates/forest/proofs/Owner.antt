@@ -2,7 +2,7 @@
 use Rattle.std.proofs.Common.{◌≡◌, ℕ, ◌<◌, ◌≤◌, true, ◌&&◌, eqb, refl, subst, arith}
 use Rattle.std.proofs.lemmas.Bool.{eq-eqb, eqb-true, and_from, and_parts}
 use Rattle.scene.specs.Cells.{Cell, Scene, Sound}
-use Rattle.forest.specs.Forest.{any, on, owns_cell_on, owner}
+use Rattle.forest.specs.Forest.{on, owns_cell_on, owner}
 use Rattle.forest.proofs.Members.{Among, any_among, among_any, all_among}
 use Rattle.forest.proofs.Lowest.{lowest_passes, lowest_first}
 
@@ -38,6 +38,3 @@ owning_below s ok p v h =
     let (c, i, t) = any_among (λ c. eqb c.board p && on v c) s.cells h in
     subst (λ b. b < s.boards) (eqb-true c.board p (and_parts (eqb c.board p) _ t).0)
     (all_among (λ c. c.board < s.boards) s.cells c ok.owned i)
-
-pub owner_of_vertex : (s : Scene) → Sound s → (v : ℕ) → any (on v) s.cells ≡ true → owner s v < s.boards
-owner_of_vertex s ok v h = let (c, i, o) = any_among (on v) s.cells h in owner_of_cell s ok c v i o

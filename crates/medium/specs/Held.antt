@@ -35,10 +35,13 @@ queue_count lanes from to = cond (is_lane from to && nat_lt (length (lanes from 
 abbrev pub OutsideKept : Queue → ℕ → ℕ → Queue → Type 0
 OutsideKept s from to t = is_lane from to ≡ false → t ≡ s
 
--- a put to a queue appends and answers that number
+-- a put to a queue appends and answers that number; one that appends none leaves the queue as it was
 abbrev pub queue_puts : Puts Queue
 queue_puts s from to f k t =
-    (k ≡ queue_count (queue_lanes s) from to) × (queue_lanes t ≡ appended (queue_lanes s) from to f k)
+    (k ≡ queue_count (queue_lanes s) from to)
+    × (queue_lanes t ≡ appended (queue_lanes s) from to f k)
+    × (k ≡ 0 → t.lanes ≡ s.lanes)
+    × OutsideKept s from to t
 
 -- a take from a queue removes the oldest frame
 abbrev pub queue_takes : Takes Queue

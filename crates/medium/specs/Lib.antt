@@ -5,3 +5,4 @@ pub mod Faults
 pub mod Fates
 pub mod Tables
 pub mod Appending
+pub mod Slots

@@ -1,6 +1,6 @@
 -- What the 64 lanes of a queue hold, and after one of them changed.
 use Rattle.std.specs.Prelude.{◌≡◌, ℕ, zero, suc, ◌+◌, ◌*◌, ◌<◌, ◌≤◌, ◌↔◌, Bool, true, false, cond, ◌&&◌, List, [], ◌∷◌}
-use Rattle.std.specs.Prelude.{◌++◌, map, length, take, drop, remove, replicate, Option, Some, None, IsSome, OnSome}
+use Rattle.std.specs.Prelude.{◌++◌, map, length, drop, remove, replicate, Option, Some, None, IsSome, OnSome}
 use Rattle.std.specs.Prelude.{IfNone, Result, Ok, Err, IsOk, ⊤, ◌==◌, ◌≢◌, nat_lt, slice_index_or, slice_set, refl}
 use Rattle.std.specs.Array.{AllOfLen}
 use Rattle.std.specs.List.{All}
@@ -15,15 +15,9 @@ use Rattle.std.proofs.lemmas.List.{append-nil, get_or-map, get_or-set_other, get
 use Rattle.std.proofs.lemmas.List.Elements.{All-head, All-tail}
 use Rattle.arrayvec.specs.ArrayVec.{ArrayVec, array_vec_len}
 use Rattle.medium.specs.declared.frame.Frame.{Frame}
-use Rattle.medium.specs.Lanes.{appended, first, is_lane, same_lane, shortened, StandsAt, empty_lanes}
-use Rattle.medium.specs.Held.{held, lanes_of, pushed, queue_count, table_lanes}
+use Rattle.medium.specs.Lanes.{is_lane, same_lane, empty_lanes}
+use Rattle.medium.specs.Held.{held, lanes_of, pushed, table_lanes}
 use Rattle.medium.specs.Appending.{lanes_agree}
-
-pub first_taken :
-    (xs : List Frame) (n : ℕ) (d : Frame) → 0 < n → 0 < length xs → Some (slice_index_or xs 0 d) ≡ first (take n xs)
-first_taken [] n d p q = absurd (omega arith)
-first_taken (x ∷ xs) zero d p q = absurd (omega arith)
-first_taken (x ∷ xs) (suc n) d p q = refl
 
 -- what holds of the frames of each lane and of no frames holds at any place
 held_at :
@@ -141,62 +135,20 @@ count_as true true e = refl
 count_as true false e = refl
 count_as false room e = absurd (both_ways false refl e)
 
-had_room : {E : Type 0} (r : Result ⊤ E) (n : ℕ) → (IsOk r ↔ (n < 8)) → is_ok r ≡ nat_lt n 8
+pub had_room : {E : Type 0} (r : Result ⊤ E) (n : ℕ) → (IsOk r ↔ (n < 8)) → is_ok r ≡ nat_lt n 8
 had_room (Ok u) n room = grind (arith, nat_tests)
 had_room (Err e) n room = grind (arith, nat_tests)
 
 -- a push that was tried had room exactly where it went well
-tried :
+pub tried :
     {E : Type 0} (r : Result ⊤ E) (was new : ArrayVec Frame) (f : Frame) → OnOk r (held new ≡ held was ++ f ∷ []) →
     OnErr r (new ≡ was) → held new ≡ pushed (is_ok r) f (held was)
 tried (Ok u) was new f more same = more
 tried (Err e) was new f more same = ap held same
 
 -- a removal at the front took the oldest frame, if one waited
-taken :
+pub taken :
     (r : Option Frame) (was new : ArrayVec Frame) → (IsSome r ↔ (0 < array_vec_len was)) →
     OnSome r (held new ≡ remove (held was) 0) → IfNone r (new ≡ was) → held new ≡ drop 1 (held was)
 taken (Some f) was new some rest same = rest
 taken None was new some rest same = grind (arith, common_steps)
-
--- the lane at its place goes from xs to F xs
-place_changed :
-    (F : List Frame → List Frame) (ls : List (ArrayVec Frame)) (from to at : ℕ) (d new : ArrayVec Frame) →
-    length ls ≡ 64 → StandsAt from to at → held new ≡ F (held (slice_index_or ls at d)) → (p q : ℕ) →
-    table_lanes (slice_set ls at new) p q
-    ≡ cond (same_lane from to p q) (F (table_lanes ls p q)) (table_lanes ls p q)
-place_changed F ls from to at d new size here changed p q =
-    let was = ap (λ k. held (slice_index_or ls k d)) here.1 ∙ lane_held ls from to d size here.0 in
-    rw here.1 (lane_changed F ls from to new size here.0 (changed ∙ ap F was) p q)
-
--- a push that was tried at a lane's place appends one copy where there was room, else none
-pub place_pushed :
-    {E : Type 0} (r : Result ⊤ E) (ls : List (ArrayVec Frame)) (from to at : ℕ) (d new : ArrayVec Frame)
-    (f : Frame) (k : ℕ) → length ls ≡ 64 → StandsAt from to at →
-    OnOk r (held new ≡ held (slice_index_or ls at d) ++ f ∷ []) → OnErr r (new ≡ slice_index_or ls at d) →
-    k ≡ bool_byte (is_ok r) → table_lanes (slice_set ls at new) ≡ appended (table_lanes ls) from to f k
-place_pushed r ls from to at d new f k size here room full count =
-    let was = slice_index_or ls at d in
-    let more : List Frame → List Frame = λ xs. xs ++ replicate k f in
-    let copies = push_as (is_ok r) (held was) f ∙ ap (λ n. held was ++ replicate n f) (sym count) in
-    lanes_agree _ _ (place_changed more ls from to at d new size here (tried r was new f room full ∙ copies))
-
--- how many copies that is
-pub place_counted :
-    {E : Type 0} (r : Result ⊤ E) (ls : List (ArrayVec Frame)) (from to at : ℕ) (d : ArrayVec Frame) (k : ℕ) →
-    length ls ≡ 64 → StandsAt from to at → (IsOk r ↔ (array_vec_len (slice_index_or ls at d) < 8)) →
-    k ≡ bool_byte (is_ok r) → k ≡ queue_count (table_lanes ls) from to
-place_counted r ls from to at d k size here room count =
-    let was =
-    ap (λ j. length (held (slice_index_or ls j d))) here.1 ∙ ap length (lane_held ls from to d size here.0) in
-    count ∙ ap bool_byte (had_room r _ room ∙ ap (λ n. nat_lt n 8) was) ∙ count_as (is_lane from to) _ here.0
-
--- a removal at the front of a lane's place takes the oldest frame, if one waits
-pub place_popped :
-    (r : Option Frame) (ls : List (ArrayVec Frame)) (from to at : ℕ) (d new : ArrayVec Frame) →
-    length ls ≡ 64 → StandsAt from to at →
-    (IsSome r ↔ (0 < array_vec_len (slice_index_or ls at d))) →
-    OnSome r (held new ≡ remove (held (slice_index_or ls at d)) 0) → IfNone r (new ≡ slice_index_or ls at d) →
-    table_lanes (slice_set ls at new) ≡ shortened (table_lanes ls) from to
-place_popped r ls from to at d new size here some rest same =
-    lanes_agree _ _ (place_changed (drop 1) ls from to at d new size here (taken r _ new some rest same))

@@ -69,7 +69,7 @@ impl Medium for Queue {
 
     ghost outside = { λ m p q none. cond-false (is_lane p q) _ _ none };
 
-    #[tactic(auto, using(crate::specs::Tables::place_pushed, crate::specs::Tables::place_counted))]
+    #[tactic(auto, using(crate::specs::Slots::pushed, crate::specs::Slots::counted, crate::specs::Slots::kept))]
     fn put(&mut self, from: usize, to: usize, frame: Frame) -> usize
         ensures count { Allowed from to result }
         ensures after { queue_lanes self.new ≡ appended (queue_lanes self.old) from to frame result }
@@ -83,7 +83,7 @@ impl Medium for Queue {
         usize::from(self.lanes[at].try_push(frame).is_ok())
     }
 
-    #[tactic(auto, using(crate::specs::Tables::place_popped))]
+    #[tactic(auto, using(crate::specs::Slots::popped))]
     fn take(&mut self, from: usize, to: usize) -> Option<Frame> {
         let at = place(from, to)?;
         self.lanes[at].pop_at(0)

@@ -1,11 +1,11 @@
 -- What the rules of a plan give.
 use Rattle.std.proofs.Common.{◌≡◌, ℕ, ◌+◌, ◌-◌, ◌*◌, ◌<◌, ◌≤◌, true, eqb, ltb, leb, List, [], ◌∷◌}
-use Rattle.std.proofs.Common.{length, get_or, take, drop, filter, sym, refl, ap, ◌∙◌, inl, inr, arith}
+use Rattle.std.proofs.Common.{length, get_or, take, drop, filter, sym, refl, ap, ◌∙◌, arith}
 use Rattle.std.specs.List.{All, AllPairs, AllByRecursion}
 use Rattle.std.specs.List.Sorted.{IsNonDecreasingBy}
 use Rattle.std.proofs.lemmas.List.Elements.{All-filter, filter_passes, recursion_from_All}
 use Rattle.std.proofs.lemmas.List.Kept.{AllPairs-filter}
-use Rattle.std.proofs.lemmas.Bool.{and_parts, cases_order, ltb-true, leb-true, eqb-true}
+use Rattle.std.proofs.lemmas.Bool.{and_parts, ltb-true, leb-true, eqb-true}
 use Rattle.std.proofs.lemmas.Bool.Decides.{nat_tests}
 use Rattle.plan.specs.declared.records.CopyRecord.{CopyRecord}
 use Rattle.plan.specs.declared.records.Edge.{Edge}
@@ -13,10 +13,9 @@ use Rattle.plan.specs.Links.{no_copy, no_edge, joins, edges_between}
 use Rattle.plan.specs.Sound.{each, copy_before, edge_before, copy_fits, edge_fits}
 use Rattle.plan.specs.Sound.{boards_fit, sound_copies, sound_edges, sound_plan}
 use Rattle.plan.specs.Starts.{link_of, edges_on, edges_before, Starts, copies_on, copies_before}
-use Rattle.plan.specs.Sums.{sum_below}
 use Rattle.plan.proofs.Counting.{before_more}
 use Rattle.plan.proofs.Orders.{pairs_from_rising, pairs_weaker, non_decreasing}
-use Rattle.plan.proofs.Orders.{all_from_each, few_keys, kept_kept, same_kept, sum_all, sum_same, part_at, part_within}
+use Rattle.plan.proofs.Orders.{all_from_each, few_keys, same_kept, part_at, part_within}
 
 -- e is an edge from leaf board p to root board q
 pub record Between (boards : ℕ) (copies : List CopyRecord) (p q : ℕ) (e : Edge) : Type 0 where
@@ -126,18 +125,6 @@ module _
       few_keys copy_key 8192 copies copies_ordered
       (λ k d l. let w = boards_within in let h = copies_fit k d l in omega (arith, h.0, h.1))
 
-  -- no two copies have the same board and vertex
-  pub copies_differ : (i j : ℕ) → i < length copies → j < length copies
-      → (get_or copies i no_copy).board ≡ (get_or copies j no_copy).board
-      → (get_or copies i no_copy).vertex ≡ (get_or copies j no_copy).vertex → i ≡ j
-  copies_differ i j a b s t = elim (cases_order i j) [
-    | inl e ↦ e
-    | inr d ↦ elim d [
-      | inl l ↦ absurd (omega (arith, copies_ordered i j no_copy l b))
-      | inr l ↦ absurd (omega (arith, copies_ordered j i no_copy l a))
-    ]
-  ]
-
   pub boards_rise : IsNonDecreasingBy (λ (c : CopyRecord). c.board) copies
   boards_rise =
       non_decreasing (λ c. c.board) copies
@@ -201,35 +188,6 @@ module _
         (λ e f b d h. omega (arith, b.from_is, b.to_is, d.from_is, d.to_is)) (edges_between edges p q) between_are
         (AllPairs-filter (λ e f. edge_key e < edge_key f) (joins p q) edges edges_ordered)
 
-    -- their vertices rise, so no two are the same
-    pub between_rises : (m k : ℕ) → m < k → k < length (edges_between edges p q)
-        → (get_or (edges_between edges p q) m no_edge).vertex < (get_or (edges_between edges p q) k no_edge).vertex
-    between_rises m k l h = between_ordered m k no_edge l h
-
-    pub between_differ : (m k : ℕ) → m < length (edges_between edges p q) → k < length (edges_between edges p q)
-        → (get_or (edges_between edges p q) m no_edge).vertex ≡ (get_or (edges_between edges p q) k no_edge).vertex
-        → m ≡ k
-    between_differ m k l h e = elim (cases_order m k) [
-      | inl s ↦ s
-      | inr d ↦ elim d [
-        | inl b ↦ absurd (omega (arith, between_rises m k b h))
-        | inr b ↦ absurd (omega (arith, between_rises k m b l))
-      ]
-    ]
-
-    -- nor do two of them name the same copy
-    pub leaves_differ : (m k : ℕ) → m < length (edges_between edges p q) → k < length (edges_between edges p q)
-        → (get_or (edges_between edges p q) m no_edge).leaf ≡ (get_or (edges_between edges p q) k no_edge).leaf → m ≡ k
-    leaves_differ m k l h e =
-        between_differ m k l h
-        (sym (between_at m l).leaf_vertex ∙ ap (λ x. (get_or copies x no_copy).vertex) e ∙ (between_at k h).leaf_vertex)
-
-    pub roots_differ : (m k : ℕ) → m < length (edges_between edges p q) → k < length (edges_between edges p q)
-        → (get_or (edges_between edges p q) m no_edge).root ≡ (get_or (edges_between edges p q) k no_edge).root → m ≡ k
-    roots_differ m k l h e =
-        between_differ m k l h
-        (sym (between_at m l).root_vertex ∙ ap (λ x. (get_or copies x no_copy).vertex) e ∙ (between_at k h).root_vertex)
-
     pub few_between : length (edges_between edges p q) ≤ 1024
     few_between =
         few_keys (λ e. e.vertex) 1024 (edges_between edges p q) between_ordered
@@ -253,18 +211,6 @@ module _
     between_is : q < 8 → edges_between edges p q ≡ filter (λ e. eqb (link_of e) (8 * p + q)) edges
     between_is l =
         same_kept (joins p q) _ edges (λ k d b. same_link (get_or edges k d) p q (edges_low k d b).1 l)
-
-  pub between_itself : (p : ℕ) → edges_between edges p p ≡ []
-  between_itself p = between_none p p (λ e b. b.apart refl)
-
-  -- every edge is between two boards
-  pub edges_sum : length edges ≡ sum_below boards (λ p. sum_below boards (λ q. length (edges_between edges p q)))
-  edges_sum =
-      sum_all (λ e. e.from) boards edges (λ k d l. (edges_are k d l).from_below)
-      ∙ sum_same boards _ _ (λ p l.
-      sum_all (λ e. e.to) boards (filter (λ e. eqb e.from p) edges)
-      (All-filter (λ e. eqb e.from p) (λ e. e.to < boards) edges (λ k d b. (edges_are k d b).to_below))
-      ∙ sum_same boards _ _ (λ q h. ap length (kept_kept (λ e. eqb e.from p) (λ e. eqb e.to q) edges)))
 
   -- a link's edges go from its start to the next, in a table of the starts
   module _ (starts : List ℕ) (right : Starts starts edges) (x : ℕ) (low : x < 64) where

@@ -3,4 +3,3 @@ pub mod Links
 pub mod Sound
 pub mod Starts
 pub mod Sums
-pub mod Views

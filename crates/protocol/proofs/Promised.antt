@@ -43,29 +43,6 @@ module _ {M : Type 0} (A : Algebra M) (law : Lawful A) (s : Scene) (P : Plan A) 
   accepted_has_all : (p : ℕ) → HasAll P.shape (accepted_in m.links) p → HasAll (laid A s) book p
   accepted_has_all p h = subst (λ S. HasAll S book p) tie.shape_is (rw book_is h)
 
-  -- of each link: what is known to have arrived was accepted, at most one item more was, and never more than there are
-  pub run_counts_in_order : (p q : ℕ) → p < s.boards → q < s.boards → p ≢ q
-      → ((link_at m.links p q).i ≤ (link_at m.links p q).j)
-      × ((link_at m.links p q).j ≤ (link_at m.links p q).i + 1)
-      × ((link_at m.links p q).j ≤ items (laid A s) p q)
-  run_counts_in_order p q pb qb pq =
-      let (a, b, c) = counts_in_order P (seen A m) run_inv p q (rw boards_are pb) (rw boards_are qb) pq in
-      (a, b, subst (λ S. (link_at m.links p q).j ≤ items S p q) tie.shape_is c)
-
-  -- each edge is two items, and each item is accepted or lacking
-  pub run_accepted_plus_lacking :
-      over_links s.boards book + pairs s.boards (λ a b. lacks (laid A s) book b a) ≡ 2 * length (laid_edges s)
-  run_accepted_plus_lacking = rw book_is
-      (subst (λ S. over_links S.boards (accepted_in m.links)
-      + pairs S.boards (λ a b. lacks S (accepted_in m.links) b a)
-      ≡ 2 * pairs S.boards P.shape.up)
-      tie.shape_is (accepted_plus_lacking P (seen A m) run_inv)
-      ∙ ap (λ e. 2 * e) tie.edges_counted)
-
-  -- and the tally counts those accepted
-  pub run_tally_counts_accepted : m.tally.accepted ≡ over_links s.boards book
-  run_tally_counts_accepted = rw book_is (accepted_counted A s run)
-
   settled_hold : (p : ℕ) → p < s.boards → HasAll (laid A s) book p
       → (c : ℕ) → c < length (laid_copies s) → board_of A s c ≡ p → HoldsTotal A s m c
   settled_hold p pb h c lc on =

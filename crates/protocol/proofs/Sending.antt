@@ -41,15 +41,6 @@ put_speaks p q f g k lanes lanes' due lost after none same is =
     }
 
 module _ (p : ℕ) (due : ℕ → Bool) (frame : ℕ → Frame) (lanes : Lanes) where
-  pub sent_none : Sent p due frame lanes 0 lanes 0 0
-  sent_none = record {
-    sent = λ q l d. absurd (omega arith);
-    still = λ q l d. absurd (omega arith);
-    rest = λ a b h. refl;
-    made_is = refl;
-    lost_is = refl;
-  }
-
   module _ (k : ℕ) (lanes' : Lanes) (made lost : ℕ) (v : Sent p due frame lanes k lanes' made lost) where
     later : {X Y : Type 0} (b : ℕ) → X ⊎ (Y ⊎ (suc k ≤ b)) → X ⊎ (Y ⊎ (k ≤ b))
     later b h = elim h [ inl x ↦ inl x | inr y ↦ elim y [ inl z ↦ inr (inl z) | inr z ↦ inr (inr (omega arith)) ] ]

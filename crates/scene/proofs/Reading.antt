@@ -2,7 +2,7 @@
 use Rattle.std.proofs.Common.{◌≡◌, ℕ, ◌+◌, ◌*◌, ◌<◌, ◌≤◌, List, length, get_or, Some, None, Option, sym, ap, ◌∙◌, inl}
 use Rattle.std.proofs.Common.{inr}
 use Rattle.std.specs.List.{slice_get}
-use Rattle.std.proofs.lemmas.Option.{slice_get-get_or, slice_get_past}
+use Rattle.std.proofs.lemmas.Option.{slice_get-get_or}
 use Rattle.std.proofs.lemmas.Bool.{cases_lt, cond-true, cond-false, lt-ltb, le-ltb}
 use Rattle.scene.specs.Cells.{Cell, Scene}
 use Rattle.scene.specs.Layout.{byte_at, number_at, words_at, corners_of, cell_at, cell_place}
@@ -61,9 +61,6 @@ module _ (b : List ℕ) (c : ℕ) where
 
 -- for callers: what the readers answer of a cell and a corner that are there
 module _ (s : Scene) (c : ℕ) where
-  pub board_none : length s.cells ≤ c → board_of s c ≡ None
-  board_none h = ap (within (λ x. Some x.board)) (slice_get_past s.cells c h)
-
   module _ (h : c < length s.cells) where
     pub board_some : board_of s c ≡ Some (get_or s.cells c no_cell).board
     board_some = ap (within (λ x. Some x.board)) (slice_get-get_or s.cells c no_cell h)
