@@ -1,6 +1,7 @@
 -- What a queue's table holds after a push or a removal at the place of a lane.
 use Rattle.std.specs.Prelude.{◌≡◌, ℕ, ◌<◌, ◌↔◌, cond, List, [], ◌∷◌, ◌++◌, length, drop, remove, replicate}
-use Rattle.std.specs.Prelude.{Option, IsSome, OnSome, IfNone, Result, Ok, Err, IsOk, ⊤, nat_lt, slice_index_or, slice_set}
+use Rattle.std.specs.Prelude.{Option, IsSome, OnSome, IfNone, Result, Ok}
+use Rattle.std.specs.Prelude.{Err, IsOk, ⊤, nat_lt, slice_index_or, slice_set}
 use Rattle.std.specs.Result.{OnOk, OnErr, is_ok}
 use Rattle.std.proofs.Common.{sym, ap, ◌∙◌, arith}
 use mir.Val.{bool_byte}

@@ -1,5 +1,5 @@
 -- Bytes that are admitted are those of the scene that is read from them.
-use Rattle.std.proofs.Common.{◌≡◌, ℕ, ◌+◌, ◌*◌, ◌%◌, ◌<◌, true, List, [], ◌∷◌, ◌++◌, length, sym, refl, ap, ◌∙◌}
+use Rattle.std.proofs.Common.{eqb, ◌≡◌, ℕ, ◌+◌, ◌*◌, ◌%◌, ◌<◌, true, List, [], ◌∷◌, ◌++◌, length, sym, refl, ap, ◌∙◌}
 use Rattle.std.proofs.Common.{subst, mul_comm, arith}
 use Rattle.std.specs.List.{flat_map, AllByRecursion}
 use Rattle.std.proofs.lemmas.List.{length-append}
@@ -78,7 +78,7 @@ module _ (b : List ℕ) (small : (i : ℕ) → byte_at b i < 256) (ok : admits b
   header_stands =
       let h = header_kept b ok in
       let room = leb-true 10 (length b) h.0 in
-      let mark = and_parts _ _ h.1.0 in
+      let mark = and_parts (eqb (byte_at b 0) 0x53) (eqb (byte_at b 1) 0x43) h.1.0 in
       let cells =
       subst (λ n. Stands b 8 (two_bytes n)) (sym (made_length read count)) (number_stands b small 8 room) in
       let numbers = glue b (two_bytes (number_at b 6)) (two_bytes (length (scene_of b).cells)) 6

@@ -1,5 +1,5 @@
 -- Where things stand in the bytes of a scene, and what they say there. Numbers have their low byte first.
-use Rattle.std.specs.Prelude.{ℕ, ◌+◌, ◌*◌, cond, List, map, Some, None, Option, nat_lt, slice_index}
+use Rattle.std.specs.Prelude.{ℕ, ◌+◌, ◌*◌, cond, List, [], ◌∷◌, map, Some, None, Option, nat_lt, slice_index}
 use Rattle.std.specs.List.{range_with_len}
 use Rattle.element.specs.declared.words.Words.{Words}
 use Rattle.scene.specs.Cells.{Cell, Scene}
@@ -16,6 +16,16 @@ word_at b at = number_at b at + 65536 * number_at b (at + 2)
 
 abbrev pub words_at : List ℕ → ℕ → Words
 words_at b at = record { x = word_at b at; y = word_at b (at + 4); z = word_at b (at + 8) }
+
+-- the marks before the header, a cell and the end: the letters SC, CE and EN
+abbrev pub header_mark : List ℕ
+header_mark = 0x53 ∷ 0x43 ∷ []
+
+abbrev pub cell_mark : List ℕ
+cell_mark = 0x43 ∷ 0x45 ∷ []
+
+abbrev pub end_mark : List ℕ
+end_mark = 0x45 ∷ 0x4E ∷ []
 
 -- a cell of k corners: mark, board, zero byte, k corners of 2 bytes, k contributions of 12
 abbrev pub cell_size : ℕ → ℕ

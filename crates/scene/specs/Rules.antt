@@ -1,10 +1,10 @@
 -- The rules that bytes keep to be a scene: for each record a list of rules in the order in which they are tried,
 -- each with the fault that stands for breaking it.
 use Rattle.std.specs.Prelude.{ℕ, ◌+◌, ◌-◌, ◌*◌, ◌%◌, Bool, true, cond, not, ◌&&◌, ◌||◌, List, [], ◌∷◌, ◌++◌, map}
-use Rattle.std.specs.Prelude.{length, Ok, Err, Result, ◌==◌, nat_le, nat_lt}
+use Rattle.std.specs.Prelude.{length, Ok, Err, Result, ◌==◌, nat_le, nat_lt, slice_index}
 use Rattle.std.specs.List.{range_with_len, flat_map}
 use Rattle.element.specs.Kinds.{is_kind, used_by}
-use Rattle.scene.specs.Layout.{byte_at, number_at, word_at, corners_of}
+use Rattle.scene.specs.Layout.{byte_at, number_at, word_at, corners_of, header_mark, cell_mark, end_mark}
 use Rattle.scene.specs.Layout.{cell_size, cell_place, corner_place, word_place}
 use Rattle.scene.specs.declared.head.Head.{Head}
 use Rattle.scene.specs.declared.fault.RecordFault.{RecordFault}
@@ -27,14 +27,14 @@ head_of b =
       cells = number_at b 8;
     }
 
--- the two bytes of a mark
-abbrev pub marked : List ℕ → ℕ → ℕ → ℕ → Bool
-marked b at first second = byte_at b at == first && byte_at b (at + 1) == second
+-- the two bytes of a mark stand at a place
+abbrev pub marked : List ℕ → ℕ → List ℕ → Bool
+marked b at mark = byte_at b at == slice_index mark 0 && byte_at b (at + 1) == slice_index mark 1
 
 abbrev pub header_rules : List ℕ → List (Rule RecordFault)
 header_rules b =
     (nat_le 10 (length b), Short 0)
-    ∷ (marked b 0 0x53 0x43, Mark 0)
+    ∷ (marked b 0 header_mark, Mark 0)
     ∷ ((byte_at b 2 == 1), Header 2)
     ∷ (is_kind (byte_at b 3), Header 3)
     ∷ (nat_le 1 (byte_at b 4) && nat_le (byte_at b 4) 8, Header 4)
@@ -65,7 +65,7 @@ word_rule h b at w =
 abbrev pub start_rules : Head → List ℕ → ℕ → List (Rule RecordFault)
 start_rules h b at =
     (nat_le (at + cell_size h.corners) (length b), Short at)
-    ∷ (marked b at 0x43 0x45, Mark at)
+    ∷ (marked b at cell_mark, Mark at)
     ∷ (nat_lt (byte_at b (at + 2)) h.boards, Cell (at + 2))
     ∷ ((byte_at b (at + 3) == 0), Cell (at + 3))
     ∷ []
@@ -81,7 +81,7 @@ cell_rules h b at =
 abbrev pub end_rules : List ℕ → ℕ → List (Rule RecordFault)
 end_rules b at =
     (nat_le (at + 2) (length b), Short at)
-    ∷ (marked b at 0x45 0x4E, Mark at)
+    ∷ (marked b at end_mark, Mark at)
     ∷ (nat_le (length b) (at + 2), Trailing (at + 2))
     ∷ []
 

@@ -5,7 +5,7 @@ use Rattle.element.specs.Algebra.{Fits, kept}
 use Rattle.element.specs.Kinds.{used_by}
 use Rattle.element.specs.declared.words.Words.{Words}
 use Rattle.scene.specs.Cells.{Cell, Scene, Sound}
-use Rattle.scene.specs.Layout.{scene_of}
+use Rattle.scene.specs.Layout.{scene_of, header_mark, cell_mark, end_mark}
 
 -- low byte first
 abbrev pub two_bytes : ℕ → List ℕ
@@ -20,16 +20,16 @@ words_bytes w = four_bytes w.x ++ (four_bytes w.y ++ four_bytes w.z)
 -- mark, board, a zero byte, the corners and a contribution for each
 abbrev pub cell_bytes : Cell → List ℕ
 cell_bytes c =
-    0x43 ∷ 0x45 ∷ c.board ∷ 0 ∷ (flat_map two_bytes c.corners ++ flat_map words_bytes c.parts)
+    cell_mark ++ c.board ∷ 0 ∷ (flat_map two_bytes c.corners ++ flat_map words_bytes c.parts)
 
 -- mark, version, and what the scene says of itself
 abbrev pub header_bytes : Scene → List ℕ
 header_bytes s =
-    0x53 ∷ 0x43 ∷ 1 ∷ s.kind ∷ s.boards ∷ s.overlap ∷ (two_bytes s.vertices ++ two_bytes (length s.cells))
+    header_mark ++ 1 ∷ s.kind ∷ s.boards ∷ s.overlap ∷ (two_bytes s.vertices ++ two_bytes (length s.cells))
 
 -- a header, the cells, an end mark
 abbrev pub written : Scene → List ℕ
-written s = header_bytes s ++ (flat_map cell_bytes s.cells ++ (0x45 ∷ 0x4E ∷ []))
+written s = header_bytes s ++ (flat_map cell_bytes s.cells ++ end_mark)
 
 -- a cell of k corners that are all different, with words of 32 bits, and zero past those that the kind uses
 pub record ProperCell (k kind : ℕ) (c : Cell) : Type 0 where

@@ -42,9 +42,9 @@ pub(crate) fn words_at(bytes: &[u8], at: usize) -> Words
 }
 
 // Whether a mark of two bytes stands at a place.
-pub(crate) fn is_marked(bytes: &[u8], at: usize, first: u8, second: u8) -> bool
+pub(crate) fn is_marked(bytes: &[u8], at: usize, mark: [u8; 2]) -> bool
     requires { at < 2 ^ 32 }
-    ensures { result ≡ marked bytes.now at first second }
+    ensures { result ≡ marked bytes.now at mark }
 {
-    byte_at(bytes, at) == first && byte_at(bytes, at + 1) == second
+    byte_at(bytes, at) == mark[0] && byte_at(bytes, at + 1) == mark[1]
 }

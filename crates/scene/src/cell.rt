@@ -8,6 +8,7 @@ use crate::bytes::{byte_at, is_marked};
 use crate::fault::RecordFault;
 use crate::head::Head;
 use crate::loops::first_fault;
+use crate::marks;
 use crate::record::{CellRecord, cell_size};
 
 // A cell's record, and what the header says of it.
@@ -39,7 +40,7 @@ impl<'a> CellCheck<'a> {
         if bytes.len() < at + cell_size(corners) {
             return Err(RecordFault::Short { place: at });
         }
-        if !is_marked(bytes, at, b'C', b'E') {
+        if !is_marked(bytes, at, marks::CELL) {
             return Err(RecordFault::Mark { place: at });
         }
         if self.cell.board() >= self.head.boards {

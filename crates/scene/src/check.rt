@@ -12,6 +12,7 @@ use crate::cell::CellCheck;
 use crate::fault::{Broken, RecordFault, SceneFault};
 use crate::head::{CORNERS, Head};
 use crate::loops::first_fault;
+use crate::marks;
 use crate::record::CellRecord;
 use element::kind::Kind;
 
@@ -40,7 +41,7 @@ fn read_header(bytes: &[u8]) -> Result<Head, RecordFault>
     if bytes.len() < 10 {
         return Err(RecordFault::Short { place: 0 });
     }
-    if !is_marked(bytes, 0, b'S', b'C') {
+    if !is_marked(bytes, 0, marks::HEADER) {
         return Err(RecordFault::Mark { place: 0 });
     }
     if byte_at(bytes, 2) != 1 {
@@ -75,7 +76,7 @@ fn check_end(bytes: &[u8], at: usize) -> Result<(), RecordFault>
     if bytes.len() < at + 2 {
         return Err(RecordFault::Short { place: at });
     }
-    if !is_marked(bytes, at, b'E', b'N') {
+    if !is_marked(bytes, at, marks::END) {
         return Err(RecordFault::Mark { place: at });
     }
     if bytes.len() > at + 2 {

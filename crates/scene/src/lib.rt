@@ -7,5 +7,6 @@ mod check;
 pub mod fault;
 mod head;
 mod loops;
+mod marks;
 mod record;
 pub mod view;
