@@ -5,7 +5,7 @@ use Rattle.element.specs.Algebra.{Algebra}
 use Rattle.medium.specs.Lanes.{Lanes}
 use Rattle.scene.specs.Cells.{Scene, Sound}
 use Rattle.scene.specs.Sums.{own_sum, undivided}
-use Rattle.plan.specs.Links.{no_copy}
+use Rattle.plan.specs.Links.{Shape, no_copy}
 use Rattle.plan.specs.declared.records.CopyRecord.{CopyRecord}
 use Rattle.plan.specs.declared.records.Edge.{Edge}
 use Rattle.forest.specs.Forest.{laid_copies, laid_edges}
@@ -14,7 +14,7 @@ use Rattle.protocol.specs.declared.tally.Tally.{Tally}
 use Rattle.protocol.specs.declared.tally.TurnCounts.{TurnCounts}
 use Rattle.protocol.specs.declared.table.Link.{Link}
 use Rattle.protocol.specs.Books.{Book, blank, fed, HasAll, report_by, lowest_unsettled}
-use Rattle.protocol.specs.Runs.{Moment, Run, laid, moment, no_tally, no_link}
+use Rattle.protocol.specs.Runs.{Moment, Run, Turn, laid, moment, no_tally, no_link}
 use Rattle.protocol.specs.Promise.{Promise}
 use Rattle.protocol.specs.declared.fault.RunFault.{RunFault}
 use Rattle.protocol.specs.declared.fault.RunFault.TheVariants.{Early}
@@ -97,14 +97,44 @@ BeginAnswers A s records lanes memory memory' links links' r =
     × (memory' ≡ memory)
     × (links' ≡ links))
 
--- a run begins after another one, which left the memory past the plan's copies as it was
-pub record BeginsAfter {M : Type 0} (A : Algebra M) (s : Scene) (records : List CopyRecord) (lanes : Lanes)
-    (memory memory' : List M) (links' : List Link) (r : Result Turning RunFault) : Type 0 where
+-- board 0 took the only turn of a run that just started with these copies over these lanes, and left moment m
+pub record TurnedOnce {M : Type 0} (A : Algebra M) (P : Shape) (lanes : Lanes) (copies : List M) (m : Moment M)
+    : Type 0 where
+  pub idle : IdleBefore lanes 64
+  pub turned : Turn A P 0 (moment no_tally (replicate 64 no_link) copies lanes) m
+
+-- a run is tried by one turn; or it does not start, since a frame waits, and all stays
+abbrev pub TriedOut : {M : Type 0} → Algebra M → Shape → Lanes → Lanes → List M → List M → List Link → List Link
+    → Type 0
+TriedOut A P lanes lanes' copies copies' links links' =
+    ((tally : Tally) × TurnedOnce A P lanes copies (moment tally links' copies' lanes'))
+    ⊎ ((f : RunFault) × WaitingFault lanes f × (copies' ≡ copies) × (links' ≡ links) × (lanes' ≡ lanes))
+
+-- a run begins over fresh lanes, after another one was tried over worn ones, which left the memory past the plan's
+-- copies as it was
+pub record BeginsAfter {M : Type 0} (A : Algebra M) (s : Scene) (P : Shape) (records : List CopyRecord)
+    (worn worn' fresh : Lanes) (memory memory' : List M) (links links' : List Link) (r : Result Turning RunFault)
+    : Type 0 where
   pub between : List M
-  pub links : List Link
+  pub links_between : List Link
   pub as_long : length between ≡ length memory
   pub rest : drop (length records) between ≡ drop (length records) memory
-  pub begins : BeginAnswers A s records lanes between memory' links links' r
+  pub tried : TriedOut A P worn worn' memory between links links_between
+  pub begins : BeginAnswers A s records fresh between memory' links_between links' r
+
+-- a run begins and is tried by one turn, and another one begins over what it left; or the first does not begin
+abbrev pub BeginsOver : {M : Type 0} → Algebra M → Scene → Shape → List CopyRecord → Lanes → Lanes → List M → List M
+    → List Link → List Link → Result Turning RunFault → Type 0
+BeginsOver {M} A s P records lanes lanes' memory memory' links links' r =
+    ((load_fault A s records memory ≡ None)
+    × (m : Moment M)
+    × TurnedOnce A P lanes (loaded_copies A s records ++ drop (length records) memory) m
+    × (lanes' ≡ m.lanes)
+    × BeginAnswers A s records m.lanes m.copies memory' m.links links' r)
+    ⊎ ((f : RunFault)
+    × (r ≡ Err f)
+    × (lanes' ≡ lanes)
+    × BeginAnswers A s records lanes memory memory' links links' r)
 
 -- and by the laid plan it is a fresh run that keeps its promise
 abbrev pub BeginsFresh : {M : Type 0} → Algebra M → Scene → ℕ → List CopyRecord → List Edge → List Link → List M

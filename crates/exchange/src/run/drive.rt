@@ -1,20 +1,20 @@
 // Ways through a run's states as they are meant: one loads again before one starts again, and one ends a run before
 // its copies are shown.
-ghost use Rattle.std.specs.Prelude.{◌≡◌, ℕ, ◌<◌, List, [], ◌++◌, length, drop, Some, Ok, Err};
+ghost use Rattle.std.specs.Prelude.{◌≡◌, ℕ, ◌<◌, ◌≤◌, List, [], ◌++◌, length, drop, Some, None, Ok, Err};
 ghost use Rattle.medium.specs.Lanes.{Lanes};
 ghost use Rattle.scene.specs.Cells.{Scene};
 ghost use Rattle.scene.specs.Views.{viewed};
 ghost use Rattle.plan.specs.Links.{shape};
 ghost use Rattle.plan.specs.Starts.{copies_on};
 ghost use Rattle.protocol.specs.Books.{Book, blank, lowest_unsettled};
-ghost use Rattle.protocol.specs.Runs.{Run, accepted_in, moment};
+ghost use Rattle.protocol.specs.Runs.{Run, Turn, accepted_in, moment, no_tally};
 ghost use Rattle.protocol.specs.declared.table.Link.{Link};
 ghost use Rattle.protocol.specs.declared.tally.Tally.{Tally};
 ghost use Rattle.sums.specs.Sums.{loaded_copies};
 ghost use Rattle.exchange.specs.Calls.{ShowAnswers};
 ghost use Rattle.exchange.specs.Loading.{load_fault};
-ghost use Rattle.exchange.specs.Going.{BeginAnswers, BeginsAfter, BeginsFresh, Kept, LaidPlan};
-ghost use Rattle.exchange.specs.Going.{StartAnswers, totals_of};
+ghost use Rattle.exchange.specs.Going.{BeginAnswers, BeginsAfter, BeginsFresh, BeginsOver, Kept};
+ghost use Rattle.exchange.specs.Going.{LaidPlan, StartAnswers, TriedOut, totals_of};
 
 use super::load::load;
 use super::{Ended, Loaded, Turning};
@@ -80,6 +80,28 @@ pub fn begin<E: Element, D: Medium>(
     start_fresh(loaded, scene, plan, table, medium, copies)
 }
 
+// The only turn of a run that just started, which is then given up: the plan's copies are no own sums any more.
+// Memory past them stays as it was.
+fn turn_once<E: Element, D: Medium>(
+    mut turning: Turning,
+    plan: &PlanView,
+    table: &mut LinkTable,
+    medium: &mut D,
+    copies: &mut [E],
+)
+    requires fresh { turning.tally ≡ no_tally }
+    requires room { length plan.now.copies.now ≤ length copies.old }
+    ensures turned { (tally : Tally) × Turn E.Element.algebra
+        (shape plan.now.boards plan.now.edges.now) 0
+        (moment no_tally table.old.links copies.old (D.Medium.lanes medium.old))
+        (moment tally table.new.links copies.new (D.Medium.lanes medium.new)) }
+    ensures rest { drop (length plan.now.copies.now) copies.new
+        ≡ drop (length plan.now.copies.now) copies.old }
+{
+    let _ = turning.turn(plan, table, medium, copies, 0);
+    let _ = turning.abandon();
+}
+
 // A run, one turn of it, and all over again. One loads again first: what the first run left are no own sums.
 pub fn start_over<E: Element, D: Medium>(
     scene: &SceneView,
@@ -88,7 +110,11 @@ pub fn start_over<E: Element, D: Medium>(
     medium: &mut D,
     copies: &mut [E],
 ) -> Result<Turning, RunFault>
-    ensures { elim result [
+    ensures exact { BeginsOver E.Element.algebra (viewed scene.now)
+        (shape plan.now.boards plan.now.edges.now) plan.now.copies.now
+        (D.Medium.lanes medium.old) (D.Medium.lanes medium.new) copies.old
+        copies.new table.old.links table.new.links result }
+    ensures promise { elim result [
       | Ok t ↦ (LaidPlan (viewed scene.now) plan.now.boards
           plan.now.copies.now plan.now.edges.now
           → Kept E.Element.algebra (viewed scene.now) []
@@ -97,14 +123,12 @@ pub fn start_over<E: Element, D: Medium>(
       | Err f ↦ Unit {0}
     ] }
 {
-    let mut first = begin(scene, plan, table, medium, copies)?;
-    let _ = first.turn(plan, table, medium, copies, 0);
-    let _ = first.abandon();
+    let first = begin(scene, plan, table, medium, copies)?;
+    turn_once(first, plan, table, medium, copies);
     begin(scene, plan, table, medium, copies)
 }
 
-// A run over a worn link that is given up after one turn: the plan's copies are no own sums then. Memory past them
-// stays as it was.
+// A run over a worn link, of one turn; none if a frame waits there.
 fn try_out<E: Element, D: Medium>(
     loaded: Loaded,
     plan: &PlanView,
@@ -112,14 +136,16 @@ fn try_out<E: Element, D: Medium>(
     medium: &mut D,
     copies: &mut [E],
 )
-    ensures { drop (length plan.now.copies.now) copies.new
+    requires { length plan.now.copies.now ≤ length copies.old }
+    ensures tried { TriedOut E.Element.algebra
+        (shape plan.now.boards plan.now.edges.now) (D.Medium.lanes medium.old)
+        (D.Medium.lanes medium.new) copies.old copies.new table.old.links
+        table.new.links }
+    ensures rest { drop (length plan.now.copies.now) copies.new
         ≡ drop (length plan.now.copies.now) copies.old }
 {
     match loaded.start(plan, table, medium, copies) {
-        Ok(mut turning) => {
-            let _ = turning.turn(plan, table, medium, copies, 0);
-            let _ = turning.abandon();
-        }
+        Ok(turning) => turn_once(turning, plan, table, medium, copies),
         Err((loaded, _)) => {
             let _ = loaded.discard();
         }
@@ -136,9 +162,12 @@ fn begin_anew<E: Element, D: Medium>(
     fresh: &D,
     copies: &mut [E],
 ) -> Result<Turning, RunFault>
+    requires { length plan.now.copies.now ≤ length copies.old }
     ensures exact { BeginsAfter E.Element.algebra (viewed scene.now)
-        plan.now.copies.now (D.Medium.lanes fresh.now) copies.old
-        copies.new table.new.links result }
+        (shape plan.now.boards plan.now.edges.now) plan.now.copies.now
+        (D.Medium.lanes worn.old) (D.Medium.lanes worn.new)
+        (D.Medium.lanes fresh.now) copies.old copies.new table.old.links
+        table.new.links result }
     ensures promise { BeginsFresh E.Element.algebra (viewed scene.now)
         plan.now.boards plan.now.copies.now plan.now.edges.now
         table.new.links copies.new (D.Medium.lanes fresh.now) result }
@@ -162,6 +191,15 @@ pub fn start_anew<E: Element, D: Medium>(
     ensures unloaded { (f : RunFault) → load_fault E.Element.algebra (viewed scene.now)
         plan.now.copies.now copies.old ≡ Some f
         → (table.new ≡ table.old) × (worn.new ≡ worn.old) }
+    ensures after { load_fault E.Element.algebra (viewed scene.now)
+        plan.now.copies.now copies.old ≡ None
+        → BeginsAfter E.Element.algebra (viewed scene.now)
+        (shape plan.now.boards plan.now.edges.now) plan.now.copies.now
+        (D.Medium.lanes worn.old) (D.Medium.lanes worn.new)
+        (D.Medium.lanes fresh.now) (loaded_copies E.Element.algebra
+        (viewed scene.now) plan.now.copies.now
+        ++ drop (length plan.now.copies.now) copies.old)
+        copies.new table.old.links table.new.links result }
     ensures promise { BeginsFresh E.Element.algebra (viewed scene.now)
         plan.now.boards plan.now.copies.now plan.now.edges.now
         table.new.links copies.new (D.Medium.lanes fresh.now) result }

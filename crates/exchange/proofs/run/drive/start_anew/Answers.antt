@@ -12,9 +12,9 @@ returns-clause-exact g c =
     let memory = c.args.copies.now in
     let loaded = c.in_ok-loaded.ensures.exact in
     let after = c.begin_anew.ensures.exact in (
-      after.links,
+      after.links_between,
       begins_over A s records memory after.between c.begin_anew.new.copies
-          (g.D.Medium.lanes c.args.fresh.now) after.links c.begin_anew.new.table.links
+          (g.D.Medium.lanes c.args.fresh.now) after.links_between c.begin_anew.new.table.links
           c.begin_anew.result loaded.0 (after.as_long ∙ c.load.auto.copies)
           (after.rest ∙ rest_behind_loaded A s records memory c.load.new.copies loaded.1)
           after.begins,
