@@ -1,17 +1,16 @@
 -- What the calls of a run answer, and what they leave.
 use Rattle.std.specs.Prelude.{◌≡◌, ℕ, ◌/◌, ◌%◌, ◌<◌, cond, List, [], length, Some, None, Ok, Err, Option, Result}
 use Rattle.std.specs.Prelude.{nat_le, nat_lt}
-use Rattle.std.specs.Borrow.{Bor}
+use Rattle.std.specs.Option.{option_or}
 use Rattle.element.specs.Algebra.{Algebra}
 use Rattle.medium.specs.Lanes.{Lanes}
 use Rattle.plan.specs.Links.{shape}
-use Rattle.plan.specs.Starts.{values_on}
 use Rattle.plan.specs.declared.records.CopyRecord.{CopyRecord}
 use Rattle.plan.specs.declared.records.Edge.{Edge}
 use Rattle.protocol.specs.Runs.{Moment, Turn, seen, counts}
 use Rattle.protocol.specs.declared.tally.TurnCounts.{TurnCounts}
 use Rattle.protocol.specs.declared.fault.RunFault.{RunFault}
-use Rattle.protocol.specs.declared.fault.RunFault.TheVariants.{Short, Waiting, Board, Turns}
+use Rattle.protocol.specs.declared.fault.RunFault.TheVariants.{Short, Waiting, Board, Turns, Early}
 use Rattle.protocol.specs.Faults.{turn_limit}
 
 -- why a turn is refused: no such board, then no turn left, then too little memory for the plan's copies
@@ -51,8 +50,7 @@ abbrev pub show_fault : ℕ → List CopyRecord → ℕ → ℕ → Option RunFa
 show_fault boards copies room p =
     cond (nat_le (length copies) room) (cond (nat_lt p boards) None (Some (Board p))) (Some (Short (length copies)))
 
--- board p's copies are handed out as the part of the memory that they are, unless something is against it
-abbrev pub ShowAnswers : {M : Type 0} → ℕ → List CopyRecord → List M → ℕ → Result (Bor (List M)) RunFault → Type 0
-ShowAnswers boards records memory p (Ok shown) =
-    (show_fault boards records (length memory) p ≡ None) × (shown.now ≡ values_on records memory p)
-ShowAnswers boards records memory p (Err f) = show_fault boards records (length memory) p ≡ Some f
+-- why a run is not ended and shown: what is against showing, then the lowest board that is not settled
+abbrev pub finish_fault : ℕ → List CopyRecord → ℕ → ℕ → ℕ → Option RunFault
+finish_fault boards copies room p unsettled =
+    option_or (show_fault boards copies room p) (cond (nat_lt unsettled boards) (Some (Early unsettled)) None)

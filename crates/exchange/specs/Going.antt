@@ -5,7 +5,8 @@ use Rattle.element.specs.Algebra.{Algebra}
 use Rattle.medium.specs.Lanes.{Lanes}
 use Rattle.scene.specs.Cells.{Scene, Sound}
 use Rattle.scene.specs.Sums.{own_sum, undivided}
-use Rattle.plan.specs.Links.{Shape, no_copy}
+use Rattle.plan.specs.Links.{no_copy}
+use Rattle.plan.specs.Starts.{copies_on}
 use Rattle.plan.specs.declared.records.CopyRecord.{CopyRecord}
 use Rattle.plan.specs.declared.records.Edge.{Edge}
 use Rattle.forest.specs.Forest.{laid_copies, laid_edges}
@@ -14,12 +15,12 @@ use Rattle.protocol.specs.declared.tally.Tally.{Tally}
 use Rattle.protocol.specs.declared.tally.TurnCounts.{TurnCounts}
 use Rattle.protocol.specs.declared.table.Link.{Link}
 use Rattle.protocol.specs.Books.{Book, blank, fed, HasAll, report_by, lowest_unsettled}
-use Rattle.protocol.specs.Runs.{Moment, Run, Turn, laid, moment, no_tally, no_link}
+use Rattle.protocol.specs.Runs.{Moment, Run, laid, moment, no_tally, no_link}
 use Rattle.protocol.specs.Promise.{Promise}
 use Rattle.protocol.specs.declared.fault.RunFault.{RunFault}
 use Rattle.protocol.specs.declared.fault.RunFault.TheVariants.{Early}
 use Rattle.sums.specs.Sums.{loaded_copies}
-use Rattle.exchange.specs.Calls.{IdleBefore, WaitingFault}
+use Rattle.exchange.specs.Calls.{IdleBefore, TurnAnswers, WaitingFault}
 use Rattle.exchange.specs.Loading.{load_fault}
 use Rattle.exchange.specs.declared.run.Turning.{Turning}
 
@@ -78,63 +79,47 @@ EndsByTheBook A s (Ok _) book copies =
 EndsByTheBook A s (Err e) book copies =
     (lowest_unsettled (laid A s) book < s.boards) × (e.1 ≡ Early (lowest_unsettled (laid A s) book))
 
--- a run starts if no frame waits, with all counts zero; else the links stay
-abbrev pub StartAnswers : Lanes → List Link → List Link → Result Turning RunFault → Type 0
-StartAnswers lanes links links' (Ok t) =
-    IdleBefore lanes 64 × (t.tally ≡ no_tally) × (links' ≡ replicate 64 no_link)
-StartAnswers lanes links links' (Err f) = WaitingFault lanes f × (links' ≡ links)
+-- why a run does not begin: what is against loading, or else a frame that waits
+abbrev pub BeginFault : {M : Type 0} → Algebra M → Scene → List CopyRecord → List M → Lanes → RunFault → Type 0
+BeginFault A s records memory lanes f =
+    (load_fault A s records memory ≡ Some f) ⊎ ((load_fault A s records memory ≡ None) × WaitingFault lanes f)
 
--- a run begins if nothing is against loading, and it then starts; or loading is refused, and all stays
+-- a run begins, the copies loaded and all counts zero; or it is refused, and all stays
 abbrev pub BeginAnswers : {M : Type 0} → Algebra M → Scene → List CopyRecord → Lanes → List M → List M
     → List Link → List Link → Result Turning RunFault → Type 0
-BeginAnswers A s records lanes memory memory' links links' r =
-    ((load_fault A s records memory ≡ None)
+BeginAnswers A s records lanes memory memory' links links' (Ok t) =
+    (load_fault A s records memory ≡ None)
+    × IdleBefore lanes 64
+    × (t.tally ≡ no_tally)
     × (memory' ≡ loaded_copies A s records ++ drop (length records) memory)
-    × StartAnswers lanes links links' r)
-    ⊎ ((f : RunFault)
-    × (r ≡ Err f)
-    × (load_fault A s records memory ≡ Some f)
-    × (memory' ≡ memory)
-    × (links' ≡ links))
+    × (links' ≡ replicate 64 no_link)
+BeginAnswers A s records lanes memory memory' links links' (Err f) =
+    BeginFault A s records memory lanes f × (memory' ≡ memory) × (links' ≡ links)
 
--- board 0 took the only turn of a run that just started with these copies over these lanes, and left moment m
-pub record TurnedOnce {M : Type 0} (A : Algebra M) (P : Shape) (lanes : Lanes) (copies : List M) (m : Moment M)
-    : Type 0 where
+-- board 1 and then board 0 were given a turn in a run that just started with these copies over these lanes
+pub record TurnedTwice {M : Type 0} (A : Algebra M) (boards : ℕ) (records : List CopyRecord) (edges : List Edge)
+    (lanes : Lanes) (copies : List M) (m : Moment M) : Type 0 where
   pub idle : IdleBefore lanes 64
-  pub turned : Turn A P 0 (moment no_tally (replicate 64 no_link) copies lanes) m
+  pub between : Moment M
+  pub one : Result TurnCounts RunFault
+  pub zero : Result TurnCounts RunFault
+  pub first : TurnAnswers A boards records edges 1 (moment no_tally (replicate 64 no_link) copies lanes) between one
+  pub second : TurnAnswers A boards records edges 0 between m zero
 
--- a run is tried by one turn; or it does not start, since a frame waits, and all stays
-abbrev pub TriedOut : {M : Type 0} → Algebra M → Shape → Lanes → Lanes → List M → List M → List Link → List Link
-    → Type 0
-TriedOut A P lanes lanes' copies copies' links links' =
-    ((tally : Tally) × TurnedOnce A P lanes copies (moment tally links' copies' lanes'))
+-- a run is tried; or it does not start, since a frame waits, and all stays
+abbrev pub TriedOut : {M : Type 0} → Algebra M → ℕ → List CopyRecord → List Edge → Lanes → Lanes → List M → List M
+    → List Link → List Link → Type 0
+TriedOut A boards records edges lanes lanes' copies copies' links links' =
+    ((tally : Tally) × TurnedTwice A boards records edges lanes copies (moment tally links' copies' lanes'))
     ⊎ ((f : RunFault) × WaitingFault lanes f × (copies' ≡ copies) × (links' ≡ links) × (lanes' ≡ lanes))
 
--- a run begins over fresh lanes, after another one was tried over worn ones, which left the memory past the plan's
--- copies as it was
-pub record BeginsAfter {M : Type 0} (A : Algebra M) (s : Scene) (P : Shape) (records : List CopyRecord)
-    (worn worn' fresh : Lanes) (memory memory' : List M) (links links' : List Link) (r : Result Turning RunFault)
-    : Type 0 where
-  pub between : List M
-  pub links_between : List Link
-  pub as_long : length between ≡ length memory
-  pub rest : drop (length records) between ≡ drop (length records) memory
-  pub tried : TriedOut A P worn worn' memory between links links_between
-  pub begins : BeginAnswers A s records fresh between memory' links_between links' r
-
--- a run begins and is tried by one turn, and another one begins over what it left; or the first does not begin
-abbrev pub BeginsOver : {M : Type 0} → Algebra M → Scene → Shape → List CopyRecord → Lanes → Lanes → List M → List M
-    → List Link → List Link → Result Turning RunFault → Type 0
-BeginsOver {M} A s P records lanes lanes' memory memory' links links' r =
-    ((load_fault A s records memory ≡ None)
-    × (m : Moment M)
-    × TurnedOnce A P lanes (loaded_copies A s records ++ drop (length records) memory) m
-    × (lanes' ≡ m.lanes)
-    × BeginAnswers A s records m.lanes m.copies memory' m.links links' r)
-    ⊎ ((f : RunFault)
-    × (r ≡ Err f)
-    × (lanes' ≡ lanes)
-    × BeginAnswers A s records lanes memory memory' links links' r)
+-- in every run of a laid plan whose links and copies are these, board p's copies are the undivided totals
+abbrev pub ShowsTotals : {M : Type 0} → Algebra M → ℕ → List CopyRecord → List Edge → List Link → List M → ℕ → List M
+    → Type 0
+ShowsTotals A boards records edges links copies p shown = (s : Scene) → LaidPlan s boards records edges
+    → (tally : Tally) (lanes : Lanes) (ts : List ℕ) (book : Book) (losses : ℕ)
+    → Run A s ts (moment tally links copies lanes) book losses
+    → shown ≡ totals_of A s (copies_on records p)
 
 -- and by the laid plan it is a fresh run that keeps its promise
 abbrev pub BeginsFresh : {M : Type 0} → Algebra M → Scene → ℕ → List CopyRecord → List Edge → List Link → List M

@@ -1,11 +1,40 @@
 // What an ended run holds.
-ghost use Rattle.std.specs.Prelude.{◌≡◌, length, take, drop, Some, None, Ok, Err};
-ghost use Rattle.plan.specs.Starts.{copies_before, copies_on};
+ghost use Rattle.std.specs.Prelude.{◌≡◌, ◌<◌, ◌≤◌, length, Some, None, Ok, Err};
+ghost use Rattle.plan.specs.Starts.{values_on};
 ghost use Rattle.exchange.specs.Calls.{show_fault};
 
 use super::Ended;
 use plan::view::PlanView;
 use protocol::fault::RunFault;
+
+// Refuses memory too short for the plan's copies.
+pub(super) fn check_room(plan: &PlanView, room: usize) -> Result<(), RunFault>
+    ensures { elim result [
+      | Ok _ ↦ length plan.now.copies.now ≤ room
+      | Err f ↦ (room < length plan.now.copies.now)
+          × (f ≡ RunFault.Short (length plan.now.copies.now))
+    ] }
+{
+    let needed = plan.copies().len();
+    if room < needed {
+        return Err(RunFault::Short { needed });
+    }
+    Ok(())
+}
+
+// Refuses short memory, then a board that there is not.
+pub(super) fn check_show(plan: &PlanView, room: usize, board: usize) -> Result<(), RunFault>
+    ensures { elim result [
+      | Ok _ ↦ show_fault plan.now.boards plan.now.copies.now room board ≡ None
+      | Err f ↦ show_fault plan.now.boards plan.now.copies.now room board ≡ Some f
+    ] }
+{
+    check_room(plan, room)?;
+    if board >= plan.boards() {
+        return Err(RunFault::Board { given: board });
+    }
+    Ok(())
+}
 
 impl Ended {
     // Board `board`'s copies, as a part of the memory.
@@ -18,20 +47,13 @@ impl Ended {
         ensures { elim result [
           | Ok s ↦ (show_fault plan.now.boards plan.now.copies.now
               (length copies.now) board ≡ None) ×
-              (s.now ≡ take (length (copies_on plan.now.copies.now board))
-              (drop (copies_before plan.now.copies.now board) copies.now))
+              (s.now ≡ values_on plan.now.copies.now copies.now board)
           | Err f ↦
               show_fault plan.now.boards plan.now.copies.now (length copies.now)
               board ≡ Some f
         ] }
     {
-        let needed = plan.copies().len();
-        if copies.len() < needed {
-            return Err(RunFault::Short { needed });
-        }
-        if board >= plan.boards() {
-            return Err(RunFault::Board { given: board });
-        }
+        check_show(plan, copies.len(), board)?;
         let part = plan.board_part(board);
         let from = part.from;
         let end = from + part.count;

@@ -23,7 +23,7 @@ fn waits<D: Medium>(medium: &D, lane: usize) -> bool
 }
 
 // Refuses if a frame waits somewhere, with the first such lane.
-fn check_idle<D: Medium>(medium: &D) -> Result<(), RunFault>
+pub(super) fn check_idle<D: Medium>(medium: &D) -> Result<(), RunFault>
     ensures { elim result [
       | Ok _ ↦ IdleBefore (D.Medium.lanes medium.now) 64
       | Err f ↦ WaitingFault (D.Medium.lanes medium.now) f
