@@ -1,7 +1,7 @@
 -- A run that is listed is one that circles led to from a fresh start.
 use Rattle.std.proofs.Common.{◌≡◌, ℕ, ◌+◌, ◌*◌, ◌/◌, ◌%◌, ◌<◌, ◌≤◌, Bool, not, List, [], ◌++◌, length, Some, None, Ok}
 use Rattle.std.proofs.Common.{Err, Result, refl, ap, ◌∙◌, subst, inl, inr, le_trans, mul-le-mul_right}
-use Rattle.std.proofs.Common.{add-mul}
+use Rattle.std.proofs.Common.{Option, add-mul}
 use Rattle.std.proofs.Common.{mul-le-mul_left, arith}
 use Rattle.std.proofs.lemmas.Bool.{cases_lt, eq-eqb, le-leb, lt-ltb}
 use Rattle.element.specs.Algebra.{Algebra, Lawful}
@@ -19,8 +19,6 @@ use Rattle.protocol.specs.declared.table.Link.{Link}
 use Rattle.exchange.specs.Calls.{FirstWaiting, IdleBefore, turn_fault}
 use Rattle.exchange.specs.Going.{LaidPlan, Kept, BeginAnswers}
 use Rattle.exchange.specs.Loading.{load_fault}
-use Rattle.exchange.specs.declared.run.Turning.{Turning}
-use Rattle.exchange.proofs.Over.{not_both}
 use Rattle.listing.specs.declared.lines.PlanNumbers.{PlanNumbers}
 use Rattle.circles.specs.Circles.{SettleAnswers}
 use Rattle.circles.proofs.Turns.{circles_carry, circles_turns}
@@ -45,8 +43,8 @@ one_lane_is_first lanes j k v w = elim (cases_lt j k) [
 
 -- ---- the run
 
-ok_is_no_err : (t : Turning) (f : RunFault) → Ok t ≡ Err f → ⊥
-ok_is_no_err t f e = grind arith
+not_both : {f : RunFault} (o : Option RunFault) → o ≡ None → o ≡ Some f → ⊥
+not_both o none some = grind arith
 
 -- elements of the scene's kind, and room for all copies: nothing is against loading
 pub loading_is_allowed : {M : Type 0} (A : Algebra M) (s : Scene) (records : List CopyRecord) (memory : List M)
@@ -59,23 +57,14 @@ pub run_refused : {M : Type 0} (A : Algebra M) (s : Scene) (records : List CopyR
     → s.kind ≡ A.kind → length records ≤ length memory
     → BeginAnswers A s records lanes memory memory' links links' (Err f) → page ≡ refused_page (Run f)
     → RunTold A s lanes page
-run_refused A s records lanes memory memory' links links' f page kind room answers told = elim answers [
-  | inl (_, _, ((j, first, waits), _)) ↦ record {
+run_refused A s records lanes memory memory' links links' f page kind room (why, _, _) told = elim why [
+  | inl some ↦
+      absurd (not_both (load_fault A s records memory) (loading_is_allowed A s records memory kind room) some)
+  | inr (_, (j, first, waits)) ↦ record {
     fresh = λ idle. absurd (waiting_is_not_idle lanes j 64 first.a_lane idle first);
     waits = λ k w. told ∙ ap (λ x. refused_page (Run x)) (waits
         ∙ ap (λ n. Waiting (n / 8) (n % 8)) (one_lane_is_first lanes j k first w));
   }
-  | inr (_, _, some, _, _) ↦
-      absurd (not_both (load_fault A s records memory) (loading_is_allowed A s records memory kind room) some)
-]
-
--- one that begins has no frame waiting
-pub begun_over_idle_lanes : {M : Type 0} (A : Algebra M) (s : Scene) (records : List CopyRecord) (lanes : Lanes)
-    (memory memory' : List M) (links links' : List Link) (t : Turning)
-    → BeginAnswers A s records lanes memory memory' links links' (Ok t) → IdleBefore lanes 64
-begun_over_idle_lanes A s records lanes memory memory' links links' t answers = elim answers [
-  | inl (_, _, (idle, _, _)) ↦ idle
-  | inr (f, is_err, _, _, _) ↦ absurd (ok_is_no_err t f is_err)
 ]
 
 -- the plan's boards turn for the first time: no turn is refused within the circles allowed

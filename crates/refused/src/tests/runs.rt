@@ -135,12 +135,26 @@ fn a_run_that_starts_over_ends_with_the_totals(rt: HostRuntime) -> Result<(), Fa
         Ok(turning) => turning,
         Err(_) => return Err(Fail::new("the start is refused")),
     };
-    let _ = settle(&mut turning, &plan, &mut table, &mut fresh, &mut values, 9);
-    let Ok(shown) = finish(turning, &plan, &table, &values, 1) else {
-        return Err(Fail::new("board 1 shows nothing"));
+    let mut turning = match finish(turning, &plan, &table, &values, 1) {
+        Ok(_) => return Err(Fail::new("a run ends before its first turn")),
+        Err((turning, fault)) => {
+            assert!(rt; (fault.number(), fault.last()) == (15, 0));
+            turning
+        }
     };
-    assert!(rt; shown == [Depth { value: 7 }, Depth { value: 6 }, Depth { value: 9 }].as_slice());
-    Ok(())
+    let _ = settle(&mut turning, &plan, &mut table, &mut fresh, &mut values, 9);
+    match finish(turning, &plan, &table, &values, 1) {
+        Ok((shown, _)) => {
+            assert!(rt;
+                shown == [Depth { value: 7 }, Depth { value: 6 }, Depth { value: 9 }].as_slice()
+            );
+            Ok(())
+        }
+        Err((turning, _)) => {
+            turning.abandon();
+            Err(Fail::new("board 1 shows nothing"))
+        }
+    }
 }
 
 // Turns of board 0.

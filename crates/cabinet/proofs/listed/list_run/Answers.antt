@@ -5,7 +5,7 @@ use Rattle.scene.specs.Views.{viewed}
 use Rattle.protocol.specs.Runs.{moment}
 use Rattle.listing.specs.declared.lines.PlanNumbers.{PlanNumbers}
 use Rattle.cabinet.specs.Pages.{head_page, boards_page, reports}
-use Rattle.cabinet.proofs.Runs.{run_listed, run_refused, begun_over_idle_lanes, same_numbers, waiting_is_not_idle}
+use Rattle.cabinet.proofs.Runs.{run_listed, run_refused, same_numbers, waiting_is_not_idle}
 use Rattle.cabinet.proofs.listed.list_run.Goals as goal
 
 pub returns : goal.returns
@@ -20,8 +20,7 @@ returns g c =
     let m' = moment c.settle.new.turning.tally c.settle.new.table.links c.settle.new.copies
     (g.D.Medium.lanes c.settle.new.medium) in
     let begun = c.in-Ok.ensures in
-    let idle = begun_over_idle_lanes A s records lanes c.args.values.now c.begin.new.copies
-    c.new-table.result.links c.begin.new.table.links c.in-Ok.turning begun.exact in
+    let idle = begun.exact.1 in
     let n : PlanNumbers = record {
       boards = c.boards.result;
       overlap = c.overlap.result;
