@@ -1,4 +1,4 @@
-// Runs each scene named by an argument as both programs do, and prints what they list, long listings by a digest.
+// Runs each scene named by an argument as both programs do, and prints one line of what they list.
 #![tactic(auto)]
 
 use cabinet::listed::list;
@@ -6,26 +6,7 @@ use medium::medium::Medium;
 use medium::queue::Queue;
 use medium::quota::{Limit, Quota};
 use medium::script::Script;
-use std::io::Write;
 use std::{env, fs, io};
-
-// Listings of more lines than this are shortened.
-const LINES: usize = 12;
-
-// Where the first n lines end.
-// Kept: counted down; `nth` over the newlines would want n to be at least 1, and the place behind.
-fn lines_end(page: &[u8], n: usize) -> usize {
-    let mut left = n;
-    for (k, byte) in page.iter().enumerate() {
-        if left == 0 {
-            return k;
-        }
-        if *byte == b'\n' {
-            left -= 1;
-        }
-    }
-    page.len()
-}
 
 // Each byte by its place, summed.
 fn digest(page: &[u8]) -> u64 {
@@ -38,16 +19,18 @@ fn digest(page: &[u8]) -> u64 {
     sum
 }
 
+// A refusal's own line, or the first two of a listing and the digest of all; on one line, without its end.
 fn print_page(rt: &HostRuntime, page: &[u8]) -> io::Result<()> {
-    if lines_end(page, LINES) == page.len() {
-        return rt.stdout().write_all(page);
+    let text = String::from_utf8_lossy(rt.alloc(), page)?;
+    let mut lines = text.lines();
+    let first = lines.next().unwrap_or("");
+    match lines.next() {
+        Some(second) => {
+            let sum = digest(page);
+            print!(rt; "{first}, {second}, digest {sum}")
+        }
+        None => print!(rt; "{first}"),
     }
-    let head = lines_end(page, 2);
-    if head <= page.len() {
-        rt.stdout().write_all(&page[0..head])?;
-    }
-    let sum = digest(page);
-    println!(rt; "digest {sum}")
 }
 
 fn print_listing<D: Medium + Drop>(rt: &HostRuntime, bytes: &[u8], medium: D) -> io::Result<()> {
@@ -57,10 +40,11 @@ fn print_listing<D: Medium + Drop>(rt: &HostRuntime, bytes: &[u8], medium: D) ->
 
 fn print_case(rt: &HostRuntime, name: &str, limit: Limit) -> io::Result<()> {
     let bytes = fs::read(rt, name)?;
-    println!(rt; "{name}")?;
+    print!(rt; "{name}: ")?;
     print_listing(rt, &bytes, Quota::over(Queue::new(), limit))?;
-    println!(rt; "rough")?;
-    print_listing(rt, &bytes, Script::over(Quota::over(Queue::new(), limit)))
+    print!(rt; "; rough: ")?;
+    print_listing(rt, &bytes, Script::over(Quota::over(Queue::new(), limit)))?;
+    println!(rt; "")
 }
 
 fn main(rt: HostRuntime) -> io::Result<()> {

@@ -1,4 +1,4 @@
-"""The lines that the two programs print, and the short form that `stdout` holds of them."""
+"""The lines that the two programs print, and the one line of both that `stdout` holds for each scene."""
 
 from exchange import Run
 from forest import laid_within_memory
@@ -6,7 +6,6 @@ from medium import Queue, Quota, Script
 from scene import Refused, read_scene
 
 MOST_CIRCLES = 100000
-MOST_LINES = 12
 
 
 def medium_of(rough):
@@ -48,14 +47,10 @@ def digest(text):
 
 
 def shortened(text):
-    """The whole listing if it has few lines, else its first two lines and its digest."""
+    """A refusal's line, or the first two lines of a listing and the digest of all, on one line."""
     lines = text.splitlines()
-    if len(lines) <= MOST_LINES:
-        return text
-    return f"{lines[0]}\n{lines[1]}\ndigest {digest(text)}\n"
+    return ", ".join(lines[:2] + ([f"digest {digest(text)}"] if len(lines) > 1 else []))
 
 
 def entry(name, data):
-    plain = shortened(listing(data, False))
-    rough = shortened(listing(data, True))
-    return f"{name}\n{plain}rough\n{rough}"
+    return f"{name}: {shortened(listing(data, False))}; rough: {shortened(listing(data, True))}\n"
