@@ -1,17 +1,16 @@
 -- Counting and gathering number by number, and lists written one after another.
 use Rattle.std.proofs.Common.{◌≡◌, ℕ, zero, suc, ◌+◌, ◌<◌, ◌≤◌, Bool, true, false, ◌||◌, List, [], ◌∷◌, ◌++◌, length}
-use Rattle.std.proofs.Common.{take, drop, set, sym, refl, ap, ◌∙◌, inl, inr, add-zero, zero-add, add-one, arith}
+use Rattle.std.proofs.Common.{take, drop, set, eqb, ltb, Some, None, Option}
+use Rattle.std.proofs.Common.{sym, refl, ap, ◌∙◌, inl, inr, add-zero, zero-add, add-one, arith}
 use mir.Val.{bool_byte}
-use Rattle.std.proofs.lemmas.Bool.{cases_eq}
+use Rattle.std.proofs.lemmas.Bool.{cases_eq, le-ltb}
+use Rattle.std.proofs.lemmas.Bool.Decides.{nat_tests}
 use Rattle.std.proofs.lemmas.List.{append_assoc, length-append, take-append-drop, take_at, drop_at, drop-drop}
 use Rattle.std.proofs.lemmas.List.{length-take-le, set_split}
-use Rattle.laying.specs.Rows.{some, many, gathered, only, placed}
+use Rattle.laying.specs.Rows.{some, many, passes, gathered, only, placed}
 
 pub gathered_more : {X : Type 0} (f : ℕ → List X) (n : ℕ) → gathered f (n + 1) ≡ gathered f n ++ f n
 gathered_more f n = ap (gathered f) (add-one n)
-
-pub many_more : (t : ℕ → Bool) (n : ℕ) → many t (n + 1) ≡ many t n + bool_byte (t n)
-many_more t n = ap (many t) (add-one n)
 
 pub some_more : (t : ℕ → Bool) (n : ℕ) → some t (n + 1) ≡ (some t n || t n)
 some_more t n = ap (some t) (add-one n)
@@ -61,6 +60,50 @@ room f i (suc n) h =
           let below : i < n = omega arith in
           omega (arith, room f i n below, length-append (gathered f n) (f n))
     ]
+
+-- one number equals m, if it is below n
+many_eqb : (m n : ℕ) → many (eqb m) n ≡ bool_byte (ltb m n)
+many_eqb m zero = ap bool_byte (sym (le-ltb m 0 (omega arith)))
+many_eqb m (suc n) = ap (λ k. k + bool_byte (eqb m n)) (many_eqb m n) ∙ last
+  where
+    last : bool_byte (ltb m n) + bool_byte (eqb m n) ≡ bool_byte (ltb m (suc n))
+    last = grind (arith, nat_tests)
+
+none_pass : (n : ℕ) → many (λ q. false) n ≡ 0
+none_pass zero = refl
+none_pass (suc n) = omega (arith, none_pass n)
+
+-- at most one number is the one that there is
+pub many_one : (o : Option ℕ) (n : ℕ) → many (λ q. passes (λ x. eqb x q) o) n ≤ 1
+many_one None n = omega (arith, none_pass n)
+many_one (Some m) n = omega (arith, many_eqb m n, byte_le (ltb m n))
+
+module _ {X : Type 0} (f : ℕ → ℕ → List X) where
+  rows_none : (b : ℕ) → length (gathered (λ q. gathered (f q) 0) b) ≡ 0
+  rows_none zero = refl
+  rows_none (suc b) =
+      omega (arith, length-append (gathered (λ q. gathered (f q) 0) b) (gathered (f b) 0), rows_none b)
+
+  -- each row goes on by one list
+  rows_more : (n b : ℕ)
+      → length (gathered (λ q. gathered (f q) (suc n)) b)
+      ≡ length (gathered (λ q. gathered (f q) n) b) + length (gathered (λ q. f q n) b)
+  rows_more n zero = refl
+  rows_more n (suc b) =
+      omega (
+        arith,
+        rows_more n b,
+        length-append (gathered (λ q. gathered (f q) (suc n)) b) (gathered (f b) (suc n)),
+        length-append (gathered (f b) n) (f b n),
+        length-append (gathered (λ q. gathered (f q) n) b) (gathered (f b) n),
+        length-append (gathered (λ q. f q n) b) (f b n),
+      )
+
+  -- rows that have at most one element at each number, all rows together
+  pub rows_few : (b n : ℕ) → ((v : ℕ) → length (gathered (λ q. f q v) b) ≤ 1)
+      → length (gathered (λ q. gathered (f q) n) b) ≤ n
+  rows_few b zero h = omega (arith, rows_none b)
+  rows_few b (suc n) h = omega (arith, rows_more n b, rows_few b n h, h n)
 
 pub placed_none : {X : Type 0} (xs : List X) (k : ℕ) → placed xs k [] ≡ xs
 placed_none xs k = ap (λ n. take k xs ++ drop n xs) (add-zero k) ∙ take-append-drop k xs

@@ -4,7 +4,7 @@ pub mod Counts
 mod Filled
 mod Gather
 mod Layers
-mod Links
 mod Lowest
+mod Sizes
 mod Stands
 mod Tied

@@ -7,6 +7,10 @@ use mir.Val.{bool_byte}
 abbrev pub Tells : List Bool → ℕ → (ℕ → Bool) → Type 0
 Tells row n t = (k : ℕ) → k < n → slice_index_or row k false ≡ t k
 
+-- the numbers of a row below n are the function's values
+abbrev pub Holds : List ℕ → ℕ → (ℕ → ℕ) → Type 0
+Holds row n f = (k : ℕ) → k < n → slice_index_or row k 0 ≡ f k
+
 -- some number below n passes
 abbrev pub some : (ℕ → Bool) → ℕ → Bool
 some t zero = false

@@ -1,14 +1,17 @@
--- The records that working tables say: a row of kept vertices for each board, and the vertices' owners.
+-- The records that working tables say: for each board the vertices that it keeps and the numbers of its copies, for
+-- each vertex its owner, and all roots by board, then vertex.
 use Rattle.std.specs.Prelude.{ℕ, ◌+◌, Bool, cond, not, ◌&&◌, List, [], length, Some, None, Option, ◌==◌, nat_lt}
 use Rattle.std.specs.Prelude.{slice_index_or}
+use Rattle.std.specs.List.{flat_map}
 use Rattle.scene.specs.Cells.{Scene}
 use Rattle.forest.specs.Forest.{lowest, owns_cell_on}
 use Rattle.laying.specs.Rows.{flag, passes, many, gathered, only}
+use Rattle.laying.specs.declared.root.Root.{Root}
 use Rattle.plan.specs.declared.records.CopyRecord.{CopyRecord}
 use Rattle.plan.specs.declared.records.Edge.{Edge}
 
 -- the row of board p
-abbrev pub row : List (List Bool) → ℕ → List Bool
+abbrev pub row : {X : Type 0} → List (List X) → ℕ → List X
 row table p = slice_index_or table p []
 
 -- board p's copy of v
@@ -30,6 +33,10 @@ board_copies table n p = row_copies (row table p) p n
 abbrev pub copies_in : List (List Bool) → ℕ → ℕ → List CopyRecord
 copies_in table n p = gathered (board_copies table n) p
 
+-- the number of board p's copy of v: how many copies stand before it
+abbrev pub number_in : List (List Bool) → ℕ → ℕ → ℕ → ℕ
+number_in table n p v = length (copies_in table n p) + many (flag (row table p)) v
+
 -- the lowest number below n that passes, if one does
 abbrev pub lowest_below : (ℕ → Bool) → ℕ → Option ℕ
 lowest_below t n = cond (nat_lt (lowest t n) n) (Some (lowest t n)) None
@@ -38,40 +45,48 @@ lowest_below t n = cond (nat_lt (lowest t n) n) (Some (lowest t n)) None
 abbrev pub owning : Scene → ℕ → Option ℕ
 owning s v = lowest_below (λ p. owns_cell_on s p v) s.boards
 
--- a board p that keeps this row has a ghost of v whose root is on board q
-abbrev pub ghost_in : List Bool → List (Option ℕ) → ℕ → ℕ → ℕ → Bool
-ghost_in keep owners p q v = not (p == q) && (flag keep v && passes (λ o. o == q) (slice_index_or owners v None))
+-- a root is a copy
+abbrev pub root_copy : Root → CopyRecord
+root_copy r = copy_record r.board r.vertex
 
--- the edge at v from copy number x of board p to copy number y of board q, if there is one
-abbrev pub edge_if : List Bool → List (Option ℕ) → ℕ → ℕ → ℕ → ℕ → ℕ → List Edge
-edge_if mine owners p q v x y =
-    only (ghost_in mine owners p q v) (record { from = p; to = q; vertex = v; leaf = x; root = y })
+-- board q's copy of v, if that is the vertex's owner
+abbrev pub root_if : Option ℕ → ℕ → ℕ → List CopyRecord
+root_if owner q v = only (passes (λ o. o == q) owner) (copy_record q v)
 
--- the same, where the copies of board p begin at number leaf, and those of board q at number root
-abbrev pub edge_at : List Bool → List Bool → List (Option ℕ) → ℕ → ℕ → ℕ → ℕ → ℕ → List Edge
-edge_at mine theirs owners p q leaf root v =
-    edge_if mine owners p q v (leaf + many (flag mine) v) (root + many (flag theirs) v)
+abbrev pub root_at : List (Option ℕ) → ℕ → ℕ → List CopyRecord
+root_at owners q v = root_if (slice_index_or owners v None) q v
 
-abbrev pub link_edges : List Bool → List Bool → List (Option ℕ) → ℕ → ℕ → ℕ → ℕ → ℕ → List Edge
-link_edges mine theirs owners p q leaf root n = gathered (edge_at mine theirs owners p q leaf root) n
+-- the roots of board q, of n vertices
+abbrev pub row_roots : List (Option ℕ) → ℕ → ℕ → List CopyRecord
+row_roots owners n q = gathered (root_at owners q) n
 
--- the edges from board p to board q
-abbrev pub link_in : List (List Bool) → List (Option ℕ) → ℕ → ℕ → ℕ → List Edge
-link_in table owners n p q =
-    link_edges
-    (row table p)
-    (row table q)
-    owners
-    p
-    q
-    (length (copies_in table n p))
-    (length (copies_in table n q))
-    n
+-- the roots of the boards below q
+abbrev pub roots_in : List (Option ℕ) → ℕ → ℕ → List CopyRecord
+roots_in owners n q = gathered (row_roots owners n) q
 
--- the edges from board p to the boards below b
-abbrev pub board_edges : List (List Bool) → List (Option ℕ) → ℕ → ℕ → ℕ → List Edge
-board_edges table owners n b p = gathered (link_in table owners n p) b
+-- a board p that keeps this row has a ghost of the root c
+abbrev pub ghost_in : List Bool → ℕ → CopyRecord → Bool
+ghost_in keep p c = not (p == c.board) && flag keep c.vertex
 
--- the edges from the boards below p to those below b
-abbrev pub edges_in : List (List Bool) → List (Option ℕ) → ℕ → ℕ → ℕ → List Edge
-edges_in table owners n b p = gathered (board_edges table owners n b) p
+-- the edge from board p's copy of the vertex to the root c
+abbrev pub edge_record : List (List ℕ) → ℕ → CopyRecord → Edge
+edge_record numbers p c =
+    record {
+      from = p;
+      to = c.board;
+      vertex = c.vertex;
+      leaf = slice_index_or (row numbers p) c.vertex 0;
+      root = slice_index_or (row numbers c.board) c.vertex 0;
+    }
+
+-- the same, if board p has a ghost of the root
+abbrev pub edge_at : List (List Bool) → List (List ℕ) → ℕ → CopyRecord → List Edge
+edge_at table numbers p c = only (ghost_in (row table p) p c) (edge_record numbers p c)
+
+-- the edges from board p
+abbrev pub board_edges : List (List Bool) → List (List ℕ) → List Root → ℕ → List Edge
+board_edges table numbers roots p = flat_map (λ r. edge_at table numbers p (root_copy r)) roots
+
+-- the edges from the boards below p
+abbrev pub edges_in : List (List Bool) → List (List ℕ) → List Root → ℕ → List Edge
+edges_in table numbers roots p = gathered (board_edges table numbers roots) p

@@ -7,7 +7,7 @@ use borrow.Author.Tests.{tests}
 use Rattle.std.proofs.iter.runs.Made.{chains}
 use Rattle.laying.specs.Rows.{flag, many}
 use Rattle.laying.proofs.Gather.{many_le}
-use Rattle.laying.proofs.Links.{flags_counted, rows_counted}
+use Rattle.laying.proofs.Sizes.{flags_counted, rows_counted}
 use Rattle.laying.proofs.tables.Tables.count_copies.Goals as goal
 
 pub sum-requires-clause-fits : goal.sum-requires-clause-fits

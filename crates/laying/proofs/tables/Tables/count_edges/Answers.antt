@@ -8,7 +8,6 @@ use Rattle.std.proofs.lemmas.List.FromFn.{length-range_with_len}
 use borrow.Author.Tests.{tests}
 use Rattle.laying.specs.Said.{edges_from}
 use Rattle.laying.proofs.Counts.{lengths_summed}
-use Rattle.laying.proofs.Links.{edges_few}
 use Rattle.laying.proofs.tables.Tables.count_edges.Goals as goal
 
 pub sum-requires-clause-fits : goal.sum-requires-clause-fits
@@ -24,9 +23,7 @@ sum-requires-clause-fits c =
     (at_most_from_yields_List (YieldsList-from_range 0 n n c.map.ensures.source (omega arith)) few)
     c.map.ensures.closure
     (omega arith)
-    (λ x r q k.
-    let few = edges_few t.kept t.owners t.vertices t.boards x t.small in
-    search (rules, tests))
+    (λ x r q k. search (rules, tests))
 
 pub returns : goal.returns
 returns c =

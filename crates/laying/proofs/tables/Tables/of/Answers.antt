@@ -1,19 +1,31 @@
--- Boards and vertices are few, and right rows and owners say the scene's copies and edges.
-use Rattle.std.proofs.Common.{arith}
+-- Boards and vertices are few, and right rows, numbers and roots say the scene's copies and edges.
+use Rattle.std.proofs.Common.{◌≡◌, None, take, length, ap, ◌∙◌, arith}
+use Rattle.std.proofs.lemmas.List.{get_or-take, length-take}
 use Rattle.scene.proofs.Viewing.{view_sound}
 use Rattle.scene.specs.Views.{viewed}
+use Rattle.laying.specs.Tables.{number_in, roots_in}
+use Rattle.laying.proofs.Sizes.{number_taken}
 use Rattle.laying.proofs.Tied.{tables_right}
 use Rattle.laying.proofs.tables.Tables.of.Goals as goal
 
-pub invariant_of-result : goal.invariant_of-result
-invariant_of-result c =
-    let ok = view_sound c.args.scene.now in
-    record {
-      few = omega (arith, c.boards.ensures, ok.few_boards);
-      small = omega (arith, c.vertices.ensures, ok.few_vertices);
-    }
-
 pub returns-clause-right : goal.returns-clause-right
 returns-clause-right c =
-    let v = c.args.scene.now in
-    tables_right (viewed v) (view_sound v) c.keep_all.result c.owners.result c.keep_all.ensures c.owners.ensures
+    let s = viewed c.args.scene.now in
+    let ok = view_sound c.args.scene.now in
+    let kept = c.keep_all-kept.result in
+    let b = c.boards-boards.result in
+    let n = c.vertices-vertices.result in
+    let all_boards : b ≡ s.boards = c.boards-boards.ensures in
+    let all_vertices : n ≡ s.vertices = c.vertices-vertices.ensures in
+    let owners = take n c.owners.result in
+    let rows : length (take b kept) ≡ b = omega (arith, length-take b kept, ok.few_boards) in
+    let long : length owners ≡ n = omega (arith, length-take n c.owners.result, ok.few_vertices) in
+    tables_right s ok kept c.numbers.result owners c.roots.result.items c.keep_all-kept.ensures
+    (λ p h v l.
+    c.numbers.ensures p (omega arith) v (omega arith)
+    ∙ number_taken kept b n p v (omega arith)
+    ∙ ap (λ m. number_in kept m p v) all_vertices)
+    (λ v l. get_or-take n c.owners.result v None (omega arith) ∙ c.owners.ensures v l)
+    (c.roots.ensures
+    ∙ ap (λ m. roots_in owners m b) (long ∙ all_vertices)
+    ∙ ap (roots_in owners s.vertices) all_boards)

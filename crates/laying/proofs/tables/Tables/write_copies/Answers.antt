@@ -4,7 +4,7 @@ use Rattle.std.proofs.lemmas.List.{length-take}
 use Rattle.laying.specs.Filled.{HasRoom, Appends}
 use Rattle.laying.specs.Tables.{board_copies, copies_in}
 use Rattle.laying.proofs.Filled.{appends_more, room_left, filled}
-use Rattle.laying.proofs.Links.{row_taken}
+use Rattle.laying.proofs.Sizes.{row_taken}
 use Rattle.laying.proofs.tables.Tables.write_copies.Goals as goal
 
 pub write_row-requires-clause-room : goal.write_row-requires-clause-room

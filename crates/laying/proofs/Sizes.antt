@@ -1,25 +1,19 @@
--- How many copies and edges the tables say, and the edges as they are written.
+-- How many copies and roots the tables say, and the rows as they are counted and written.
 use Rattle.std.proofs.Common.{◌≡◌, ℕ, zero, suc, ◌+◌, ◌*◌, ◌<◌, ◌≤◌, Bool, false, List, [], ◌++◌, length, count_by}
-use Rattle.std.proofs.Common.{sum_by, get_or, take, Option}
+use Rattle.std.proofs.Common.{sum_by, get_or, take, eqb, None, Option}
 use Rattle.std.proofs.Common.{sym, refl, ap, ◌∙◌, inl, inr, add-one, arith}
-use Rattle.laying.specs.Rows.{flag, many, only}
-use Rattle.laying.specs.Tables.{row, copy_at, row_copies, board_copies, copies_in, ghost_in}
-use Rattle.laying.specs.Tables.{edge_if, edge_at, link_edges, link_in, board_edges}
-use Rattle.laying.proofs.Counts.{gathered_same}
-use Rattle.laying.proofs.Gather.{length_only, many_le}
-use Rattle.plan.specs.declared.records.CopyRecord.{CopyRecord}
-use Rattle.plan.specs.declared.records.Edge.{Edge}
+use Rattle.laying.specs.Rows.{flag, many, only, passes}
+use Rattle.laying.specs.Tables.{row, copy_record, copy_at, row_copies, board_copies, copies_in, number_in}
+use Rattle.laying.specs.Tables.{root_at, roots_in}
+use Rattle.laying.proofs.Counts.{gathered_same, many_same}
+use Rattle.laying.proofs.Gather.{length_only, many_le, many_one, rows_few}
 use Rattle.std.proofs.lemmas.Bool.{cases_Bool, cases_lt}
 use Rattle.std.proofs.lemmas.List.{length-append, length-take-le, append-nil, take_all, get_or_past, get_or-take}
 use Rattle.std.proofs.lemmas.List.Sums.{count_by_more_yes, count_by_more_no, sum_by_more}
 use mir.Val.{bool_byte}
 
-copy : ℕ → ℕ → CopyRecord
-copy p v = record { board = p; vertex = v }
-
 pub row_size : (keep : List Bool) (p n : ℕ) → length (row_copies keep p n) ≡ many (flag keep) n
-unfolding copy
-row_size keep p n = length_only (flag keep) (copy p) n
+row_size keep p n = length_only (flag keep) (copy_record p) n
 
 pub copies_few : (table : List (List Bool)) (n p : ℕ) → n ≤ 1024 → length (copies_in table n p) ≤ 1024 * p
 copies_few table n zero h = omega arith
@@ -32,41 +26,16 @@ copies_few table n (suc p) h =
       many_le (flag (row table p)) n,
     )
 
-module _ (mine theirs : List Bool) (owners : List (Option ℕ)) (p q : ℕ) where
-  edge : ℕ → ℕ → ℕ → Edge
-  edge x y v = record { from = p; to = q; vertex = v; leaf = x; root = y }
-
-  pub link_size : (leaf root n : ℕ)
-      → length (link_edges mine theirs owners p q leaf root n) ≡ many (ghost_in mine owners p q) n
-  unfolding edge
-  link_size leaf root n =
-      length_only
-      (ghost_in mine owners p q)
-      (λ v. edge (leaf + many (flag mine) v) (root + many (flag theirs) v) v)
-      n
-
-  -- the edge with running numbers
-  pub edge_is : (leaf root v x y : ℕ)
-      → x ≡ leaf + many (flag mine) v
-      → y ≡ root + many (flag theirs) v
-      → edge_if mine owners p q v x y ≡ edge_at mine theirs owners p q leaf root v
-  edge_is leaf root v x y leaves roots =
-      ap (λ z. edge_if mine owners p q v z y) leaves
-      ∙ ap (λ z. edge_if mine owners p q v (leaf + many (flag mine) v) z) roots
-
-pub edges_few : (table : List (List Bool)) (owners : List (Option ℕ)) (n b p : ℕ) → n ≤ 1024
-    → length (board_edges table owners n b p) ≤ 1024 * b
-edges_few table owners n zero p h = omega arith
-edges_few table owners n (suc q) p h =
-    let leaf = length (copies_in table n p) in
-    let root = length (copies_in table n q) in
-    omega (
-      arith,
-      length-append (board_edges table owners n q p) (link_in table owners n p q),
-      edges_few table owners n q p h,
-      link_size (row table p) (row table q) owners p q leaf root n,
-      many_le (ghost_in (row table p) owners p q) n,
-    )
+-- a vertex has at most one root
+pub roots_few : (owners : List (Option ℕ)) (n b : ℕ) → length (roots_in owners n b) ≤ n
+roots_few owners n b =
+    rows_few
+    (λ q. root_at owners q)
+    b
+    n
+    (λ v.
+    let o = get_or owners v None in
+    omega (arith, length_only (λ q. passes (λ x. eqb x q) o) (λ q. copy_record q v) b, many_one o b))
 
 none_set : (n : ℕ) → many (flag []) n ≡ 0
 none_set zero = refl
@@ -111,9 +80,12 @@ flags_counted row (suc n) =
           omega (arith, more, so_far, same, ap bool_byte (get_or_past row n false h))
     ]
 
+-- the numbers below v stay in a row cut after n vertices
+pub flags_taken : (row : List Bool) (n v : ℕ) → v ≤ n → many (flag (take n row)) v ≡ many (flag row) v
+flags_taken row n v h = many_same (flag (take n row)) (flag row) v (λ k l. get_or-take n row k false (omega arith))
+
 -- past a row's end no flag is set
 copies_past : (keep : List Bool) (p n : ℕ) → length keep ≤ n → row_copies keep p n ≡ row_copies keep p (length keep)
-unfolding copy
 copies_past keep p zero h =
     let none : zero ≡ length keep = omega arith in
     ap (row_copies keep p) none
@@ -123,20 +95,19 @@ copies_past keep p (suc n) h =
           let all : suc n ≡ length keep = omega arith in
           ap (row_copies keep p) all
       | inr l ↦
-          ap (λ b. row_copies keep p n ++ only b (copy p n)) (get_or_past keep n false l)
+          ap (λ b. row_copies keep p n ++ only b (copy_record p n)) (get_or_past keep n false l)
           ∙ append-nil (row_copies keep p n)
           ∙ copies_past keep p n l
     ]
 
 -- the copies of a row cut after n vertices
 copies_taken : (keep : List Bool) (p n : ℕ) → row_copies (take n keep) p (length (take n keep)) ≡ row_copies keep p n
-unfolding copy
 copies_taken keep p n =
     elim (cases_lt n (length keep)) [
       | inl h ↦
           ap (row_copies (take n keep) p) (length-take-le n keep (omega arith))
           ∙ gathered_same (copy_at (take n keep) p) (copy_at keep p) n
-          (λ v l. ap (λ b. only b (copy p v)) (get_or-take n keep v false l))
+          (λ v l. ap (λ b. only b (copy_record p v)) (get_or-take n keep v false l))
       | inr h ↦ ap (λ r. row_copies r p (length r)) (take_all n keep h) ∙ sym (copies_past keep p n h)
     ]
 
@@ -145,9 +116,14 @@ module _ (table : List (List Bool)) (b n p : ℕ) (h : p < b) where
   is_row : row (take b table) p ≡ row table p
   is_row = get_or-take b table p [] h
 
-  pub row_counted : count_by (λ f. f) (take n (row (take b table) p)) ≡ many (flag (row table p)) n
-  row_counted = ap (λ r. count_by (λ (f : Bool). f) (take n r)) is_row ∙ flags_counted (row table p) n
-
   pub row_taken : row_copies (take n (row (take b table) p)) p (length (take n (row (take b table) p)))
       ≡ board_copies table n p
   row_taken = ap (λ r. row_copies (take n r) p (length (take n r))) is_row ∙ copies_taken (row table p) p n
+
+-- the numbers of the first b rows
+pub number_taken : (table : List (List Bool)) (b n p v : ℕ) → p < b
+    → number_in (take b table) n p v ≡ number_in table n p v
+number_taken table b n p v h =
+    let same = gathered_same (board_copies (take b table) n) (board_copies table n) p
+    (λ q l. ap (λ r. row_copies r q n) (is_row table b n q (omega arith))) in
+    omega (arith, ap length same, ap (λ r. many (flag r) v) (is_row table b n p h))
