@@ -1,16 +1,12 @@
 -- Lists over the numbers below n, gathered number by number.
 use Rattle.std.proofs.Common.{◌≡◌, ℕ, zero, suc, ◌+◌, ◌<◌, Bool, true, false, cond, List, [], ◌∷◌, ◌++◌, map, length}
-use Rattle.std.proofs.Common.{filter, sum_by, count_by, get_or, take, ◌≤◌, ◌&&◌, sym, refl, ap, ◌∙◌, zero-add, add-one, arith}
+use Rattle.std.proofs.Common.{filter, sum_by, sym, refl, ap, ◌∙◌, zero-add, add-one, arith}
 use mir.Val.{bool_byte}
 use Rattle.std.specs.List.{range_with_len, flat_map}
 use Rattle.std.proofs.lemmas.List.Concat.{length-flat_map}
 use Rattle.std.proofs.lemmas.List.FromFn.{map-range_with_len_more}
 use Rattle.std.proofs.lemmas.List.Elements.{filter-append}
-use Rattle.std.proofs.lemmas.List.{map-id, map-append, append-nil, take_more, flat_map_more, length-map}
-use Rattle.std.proofs.lemmas.Grind.{flat_map-append}
-use Rattle.std.proofs.lemmas.List.Folds.{length-flat_map-take}
-use Rattle.std.proofs.lemmas.List.Recursion.{is_count_by}
-use Rattle.std.proofs.Math.Bool.{and-true, and-false}
+use Rattle.std.proofs.lemmas.List.{map-id, map-append, flat_map_more, length-map}
 use Rattle.laying.specs.Rows.{many, gathered, only}
 use Rattle.laying.proofs.Gather.{length_only}
 
@@ -34,40 +30,6 @@ gathered_same f g zero h = refl
 gathered_same f g (suc n) h =
     ap (λ l. l ++ f n) (gathered_same f g n (λ k l. h k (omega arith)))
     ∙ ap (λ l. gathered g n ++ l) (h n (omega arith))
-
-module _ {X Y : Type 0} where
-  -- the lists of all that was gathered
-  pub joined_all : (f : X → List Y) (g : ℕ → List X) (n : ℕ)
-      → flat_map f (gathered g n) ≡ gathered (λ k. flat_map f (g k)) n
-  joined_all f g zero = refl
-  joined_all f g (suc n) =
-      flat_map-append f (gathered g n) (g n) ∙ ap (λ l. l ++ flat_map f (g n)) (joined_all f g n)
-
-  -- what one test lets through, and then the other
-  pub joined_only : (t : X → Bool) (f : X → Y) (b : Bool) (x : X)
-      → flat_map (λ z. only (t z) (f z)) (only b x) ≡ only (t x && b) (f x)
-  joined_only t f true x = append-nil (only (t x) (f x)) ∙ ap (λ b. only b (f x)) (sym (and-true (t x)))
-  joined_only t f false x = ap (λ b. only b (f x)) (sym (and-false (t x)))
-
-  -- as many as pass
-  pub length_passed : (t : X → Bool) (f : X → Y) (xs : List X)
-      → length (flat_map (λ z. only (t z) (f z)) xs) ≡ count_by t xs
-  length_passed t f = is_count_by (λ xs. length (flat_map (λ z. only (t z) (f z)) xs)) t refl (λ x xs. one (t x) (f x) _)
-    where
-      one : (b : Bool) (y : Y) (ys : List Y) → length (only b y ++ ys) ≡ cond b (1 + length ys) (length ys)
-      one true y ys = omega arith
-      one false y ys = refl
-
-  -- the list of the element at place i follows
-  module _ (f : X → List Y) (xs : List X) (i : ℕ) (x : X) (h : i < length xs) (is : x ≡ get_or xs i x) where
-    pub joined_more : flat_map f (take (i + 1) xs) ≡ flat_map f (take i xs) ++ f x
-    joined_more =
-        ap (flat_map f) (take_more xs i x h)
-        ∙ sym (flat_map_more f [] (take i xs) (get_or xs i x))
-        ∙ ap (λ y. flat_map f (take i xs) ++ f y) (sym is)
-
-    pub joined_room : length (flat_map f (take i xs)) + length (f x) ≤ length (flat_map f xs)
-    joined_room = omega (arith, length-flat_map-take f xs i x h, ap (λ y. length (f y)) is)
 
 map_only : {X : Type 0} (f : ℕ → X) (v : ℕ) (b : Bool) → map f (cond b (v ∷ []) []) ≡ only b (f v)
 map_only f v true = refl

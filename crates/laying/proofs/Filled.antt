@@ -7,8 +7,8 @@ use Rattle.std.proofs.lemmas.List.{length-append, length-take-le, length-drop}
 use Rattle.laying.specs.Filled.{HasRoom, Appends}
 use Rattle.laying.specs.Rows.{gathered, placed}
 use Rattle.laying.specs.declared.filling.Filling.{Filling}
-use Rattle.laying.proofs.Counts.{joined_more, joined_room}
 use Rattle.laying.proofs.Gather.{gathered_more, room, placed_none, placed_front, placed_more}
+use Rattle.laying.proofs.Joined.{joined_more, joined_room}
 
 module _ {X : Type 0} where
   pub appends_none : (f : Filling X) → Appends f f []

@@ -3,6 +3,7 @@ mod Corners
 pub mod Counts
 mod Filled
 mod Gather
+mod Joined
 mod Layers
 mod Lowest
 mod Sizes

@@ -12,7 +12,8 @@ use Rattle.laying.specs.Right.{Right}
 use Rattle.laying.specs.Rows.{Tells, Holds, flag, passes, only}
 use Rattle.laying.specs.Tables.{owning, row, copy_record, copy_at, board_copies, copies_in, number_in}
 use Rattle.laying.specs.Tables.{root_copy, root_at, row_roots, roots_in, ghost_in, edge_record, edge_at, board_edges}
-use Rattle.laying.proofs.Counts.{joined_gathered, gathered_same, picked, counted, many_same, joined_all, joined_only}
+use Rattle.laying.proofs.Counts.{joined_gathered, gathered_same, picked, counted, many_same}
+use Rattle.laying.proofs.Joined.{joined_all, joined_only}
 use Rattle.laying.proofs.Lowest.{lowest_is}
 
 module _ (s : Scene) (ok : Sound s) (table : List (List Bool)) (numbers : List (List ℕ)) (owners : List (Option ℕ))

@@ -3,7 +3,7 @@ use Rattle.std.proofs.Common.{◌≡◌, count_by, sym, ◌∙◌, rules}
 use Rattle.std.proofs.iter.runs.Made.{chains}
 use Rattle.laying.specs.Said.{ghost_at}
 use Rattle.laying.specs.Tables.{root_copy, edge_record}
-use Rattle.laying.proofs.Counts.{length_passed}
+use Rattle.laying.proofs.Joined.{length_passed}
 use Rattle.laying.proofs.edges.LeafBoard.count.Goals as goal
 
 pub returns-clause-exact : goal.returns-clause-exact

@@ -8,6 +8,14 @@ use Rattle.laying.proofs.Sizes.{number_taken}
 use Rattle.laying.proofs.Tied.{tables_right}
 use Rattle.laying.proofs.tables.Tables.of.Goals as goal
 
+pub invariant_of-result : goal.invariant_of-result
+invariant_of-result c =
+    let ok = view_sound c.args.scene.now in
+    record {
+      few = omega (arith, c.boards-boards.ensures, ok.few_boards);
+      small = omega (arith, c.vertices-vertices.ensures, ok.few_vertices);
+    }
+
 pub returns-clause-right : goal.returns-clause-right
 returns-clause-right c =
     let s = viewed c.args.scene.now in
