@@ -58,6 +58,7 @@ impl LeafBoard<'_> {
         requires { HasRoom out.old (edges_from self.now.tables.now self.now.board) }
         ensures { Appends out.old out.new (edges_from self.now.tables.now self.now.board) }
     {
+        // Kept: `iter()`; a loop over `&roots` has no place in its invariant, only what was yielded.
         for root in self.tables.roots.iter() {
             self.write_edge(*root, out);
         }
@@ -65,6 +66,7 @@ impl LeafBoard<'_> {
 }
 
 impl Tables {
+    // Kept: the bound of p; a type for the number of a board would be no plainer.
     fn leaf_board(&self, p: usize) -> LeafBoard<'_>
         requires { p < 8 }
         ensures tables { result.tables.now ≡ self.now }

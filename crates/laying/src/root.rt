@@ -1,6 +1,7 @@
 // A root: the copy of a vertex on the board that it belongs to.
 ghost use Rattle.std.specs.Prelude.{◌<◌};
 
+// In a file of its own: the contracts of `roots` name theory that names this struct.
 #[derive(Clone, Copy)]
 pub(crate) struct Root {
     pub(crate) board: u8,
