@@ -103,12 +103,6 @@ module _ {X : Type 0} where
             ∙ joined_append f (range_with_len 0 p) (p ∷ range_with_len (p + 1) r),
       )
 
-  pub joined_next : (f : ℕ → List X) (n : ℕ)
-      → flat_map f (range_with_len 0 (suc n)) ≡ flat_map f (range_with_len 0 n) ++ f n
-  joined_next f n =
-      ap (flat_map f) (counting_next n) ∙ joined_append f (range_with_len 0 n) (n ∷ [])
-      ∙ ap (λ zs. flat_map f (range_with_len 0 n) ++ zs) (append-nil (f n))
-
   pub all_joined : (P : X → Type 0) (f : ℕ → List X) (a n : ℕ)
       → ((p : ℕ) → a ≤ p → p < a + n → AllByRecursion P (f p)) → AllByRecursion P (flat_map f (range_with_len a n))
   all_joined P f a zero h = tt

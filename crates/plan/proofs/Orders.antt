@@ -1,6 +1,6 @@
 -- Lists of records that rise: how many they are, and how they fall into parts.
 use Rattle.std.proofs.Common.{◌≡◌, ℕ, zero, suc, ◌+◌, ◌<◌, ◌≤◌, Bool, true, false, ◌&&◌, eqb, ltb}
-use Rattle.std.proofs.Common.{List, [], ◌∷◌, ◌++◌, length, get_or, take, drop, filter, sym, refl, ap, ◌∙◌, inl, inr}
+use Rattle.std.proofs.Common.{List, [], ◌∷◌, ◌++◌, length, get_or, take, drop, filter, refl, ap, ◌∙◌, inl, inr}
 use Rattle.std.proofs.Common.{length-append, arith}
 use Rattle.std.specs.List.{All, AllPairs}
 use Rattle.std.specs.List.Sorted.{IsNonDecreasingBy}
@@ -97,13 +97,6 @@ pub sum_before : {X : Type 0} (f : X → ℕ) (xs : List X) (n : ℕ) → length
 sum_before f xs zero = ap length (none_below f xs)
 sum_before f xs (suc n) =
     count_more f n xs ∙ ap (λ a. a + length (filter (λ x. eqb (f x) n) xs)) (sum_before f xs n)
-
--- all records, if all are below n
-pub sum_all : {X : Type 0} (f : X → ℕ) (n : ℕ) (xs : List X) → All (λ x. f x < n) xs
-    → length xs ≡ sum_below n (λ i. length (filter (λ x. eqb (f x) i) xs))
-sum_all f n xs h =
-    ap length (sym (all_kept (λ x. ltb (f x) n) xs (λ k d l. lt-ltb _ n (h k d l))))
-    ∙ sum_before f xs n
 
 pub sum_same : (n : ℕ) (f g : ℕ → ℕ) → ((i : ℕ) → i < n → f i ≡ g i) → sum_below n f ≡ sum_below n g
 sum_same zero f g h = refl
