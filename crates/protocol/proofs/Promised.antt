@@ -18,7 +18,7 @@ use Rattle.protocol.proofs.Trips.{Trip}
 use Rattle.protocol.proofs.Steps.{Step, trip_inv}
 use Rattle.protocol.proofs.Holdings.{settled_boards_hold_totals, leaves_hold_own_sum_or_total}
 use Rattle.protocol.proofs.Circles.{accepted_plus_lacking, four_circles_an_edge_settle_all}
-use Rattle.protocol.proofs.Reports.{settled_report_has_all, has_all_settled_report}
+use Rattle.protocol.proofs.Reports.{settled_report_has_all, has_all_settled_report, report_names_lowest_lacking}
 use Rattle.protocol.proofs.Moments.{book_is_accepted, run_is_trip}
 use Rattle.protocol.proofs.Tallies.{turns_counted, losses_counted, accepted_counted}
 
@@ -80,6 +80,7 @@ module _ {M : Type 0} (A : Algebra M) (law : Lawful A) (s : Scene) (P : Plan A) 
     reports_follow_the_book = λ p pb. ap (λ count. report_by (laid A s) count p) (sym book_is);
     reported_settled_is_settled = λ p pb. settled_report_has_all (laid A s) book p;
     settled_is_reported_settled = λ p pb. has_all_settled_report (laid A s) book p;
+    reports_name_the_lowest_lacking = λ p q k pb. report_names_lowest_lacking (laid A s) book p q k;
     ghosts_hold_own_sum_or_total = ghosts_hold;
     enough_circles_settle_all_boards = λ cs rest e full enough.
         four_circles_an_edge_settle_all_boards cs rest e full (omega arith);

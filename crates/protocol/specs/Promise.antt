@@ -6,8 +6,8 @@ use Rattle.scene.specs.Cells.{Scene, Sound}
 use Rattle.scene.specs.Sums.{own_sum, undivided}
 use Rattle.plan.specs.Links.{no_copy, no_edge}
 use Rattle.forest.specs.Forest.{laid_copies, laid_edges}
-use Rattle.protocol.specs.declared.tally.Report.TheVariants.{Settled}
-use Rattle.protocol.specs.Books.{Book, HasAll, report_by}
+use Rattle.protocol.specs.declared.tally.Report.TheVariants.{Settled, Awaits}
+use Rattle.protocol.specs.Books.{Book, lacks, HasAll, report_by}
 use Rattle.protocol.specs.Runs.{Moment, accepted_in, laid, Run}
 
 -- x is among the elements
@@ -50,6 +50,10 @@ module _ {M : Type 0} (A : Algebra M) (s : Scene) where
         → report_by (laid A s) book p ≡ Settled → HasAll (laid A s) book p
     pub settled_is_reported_settled : (p : ℕ) → p < s.boards
         → HasAll (laid A s) book p → report_by (laid A s) book p ≡ Settled
+    -- or else it names the lowest board whose items are lacking by the book, and how many
+    pub reports_name_the_lowest_lacking : (p q k : ℕ) → p < s.boards → report_by (laid A s) book p ≡ Awaits q k
+        → (q < s.boards) × (k ≡ lacks (laid A s) book p q) × (0 < k)
+        × ((r : ℕ) → r < q → lacks (laid A s) book p r ≡ 0)
     -- a ghost holds its board's own sum or the undivided total, nothing in between
     pub ghosts_hold_own_sum_or_total : (e : ℕ) → e < length (laid_edges s)
         → HoldsOwn m (get_or (laid_edges s) e no_edge).leaf ⊎ HoldsTotal m (get_or (laid_edges s) e no_edge).leaf
