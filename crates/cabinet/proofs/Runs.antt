@@ -12,11 +12,11 @@ use Rattle.plan.specs.declared.records.Edge.{Edge}
 use Rattle.forest.specs.Forest.{laid_copies, laid_edges}
 use Rattle.protocol.specs.Books.{blank}
 use Rattle.protocol.specs.Faults.{turn_limit}
-use Rattle.protocol.specs.Runs.{Moment}
+use Rattle.protocol.specs.Runs.{Moment, turn_fault}
 use Rattle.protocol.specs.declared.fault.RunFault.{RunFault}
 use Rattle.protocol.specs.declared.fault.RunFault.TheVariants.{Waiting}
 use Rattle.protocol.specs.declared.table.Link.{Link}
-use Rattle.exchange.specs.Calls.{FirstWaiting, IdleBefore, turn_fault}
+use Rattle.exchange.specs.Calls.{FirstWaiting, IdleBefore}
 use Rattle.exchange.specs.Going.{LaidPlan, Kept, BeginAnswers}
 use Rattle.exchange.specs.Loading.{load_fault}
 use Rattle.listing.specs.declared.lines.PlanNumbers.{PlanNumbers}

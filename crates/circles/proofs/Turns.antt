@@ -10,11 +10,11 @@ use Rattle.plan.specs.declared.records.Edge.{Edge}
 use Rattle.scene.specs.Cells.{Scene}
 use Rattle.forest.proofs.Filters.{counting_next}
 use Rattle.protocol.specs.Faults.{turn_limit}
-use Rattle.protocol.specs.Runs.{Moment}
+use Rattle.protocol.specs.Runs.{Moment, turn_fault}
 use Rattle.protocol.specs.declared.tally.Tally.{Tally}
 use Rattle.protocol.specs.declared.tally.TurnCounts.{TurnCounts}
 use Rattle.protocol.specs.declared.fault.RunFault.{RunFault}
-use Rattle.exchange.specs.Calls.{TurnAnswers, turn_fault}
+use Rattle.exchange.specs.Calls.{TurnAnswers}
 use Rattle.exchange.specs.Going.{LaidPlan, Carried, GoesOn}
 use Rattle.exchange.proofs.Promises.{carried_nowhere, carried_on, carried_further}
 use Rattle.circles.specs.Circles.{circles, TurnedBelow, CircleAnswers, Circled, SettleAnswers, Settles}

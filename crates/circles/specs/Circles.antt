@@ -9,9 +9,8 @@ use Rattle.plan.specs.declared.records.Edge.{Edge}
 use Rattle.scene.specs.Cells.{Scene}
 use Rattle.protocol.specs.Books.{lowest_unsettled}
 use Rattle.protocol.specs.Faults.{turn_limit}
-use Rattle.protocol.specs.Runs.{Moment, accepted_in}
+use Rattle.protocol.specs.Runs.{Moment, turn_fault, accepted_in}
 use Rattle.protocol.specs.declared.fault.RunFault.{RunFault}
-use Rattle.exchange.specs.Calls.{turn_fault}
 use Rattle.exchange.specs.Going.{LaidPlan, Carried}
 
 -- the boards that turn in k ascending circles

@@ -14,7 +14,8 @@ use Rattle.forest.specs.Forest.{laid_copies, laid_edges}
 use Rattle.protocol.specs.declared.tally.TurnCounts.{TurnCounts}
 use Rattle.medium.specs.Lanes.{Lanes, is_lane}
 use Rattle.protocol.specs.Books.{Book, blank, fed}
-use Rattle.protocol.specs.Runs.{Moment, Turn, Run, fresh, turn, laid, seen, counts, no_tally, no_link, link_at}
+use Rattle.protocol.specs.Runs.{Moment, Turn, Still, Run, refused_turn, fresh, turn, call, laid, seen, counts}
+use Rattle.protocol.specs.Runs.{no_tally, no_link, link_at}
 use Rattle.protocol.specs.Turns.{lost}
 use Rattle.protocol.proofs.Theorem.{promise_holds}
 use Rattle.sums.proofs.Contributions.{cond_same}
@@ -86,7 +87,9 @@ module _ {M : Type 0} (A : Algebra M) (law : Lawful A) (s : Scene) where
       → GoesOn A s p m m' r
   answer_goes_on boards records edges plan p m m' (Ok n) (none, t, e) =
       turn_goes_on boards records edges plan p m m' n t e
-  answer_goes_on boards records edges plan p m m' (Err f) (some, e) = still_goes_on plan.sound m m' e
+  answer_goes_on boards records edges plan p m m' (Err f) (some, e) =
+      let refused : Still A s m = refused_turn p m.copies f (rw (← plan.same_copies, ← plan.same_boards) some) in
+      λ ts book losses r. still_goes_on plan.sound m m' e ts book losses (call refused r)
 
   pub carried_nowhere : Sound s → (m : Moment M) → Carried A s m m []
   carried_nowhere ok m ts book losses r =

@@ -18,7 +18,7 @@ use Rattle.forest.specs.Forest.{laid_copies}
 use Rattle.forest.proofs.Lowest.{lowest_first, lowest_same}
 use Rattle.protocol.specs.Books.{Book, HasAll, is_settled, report_by, lowest_unsettled}
 use Rattle.protocol.specs.Promise.{Promise}
-use Rattle.protocol.specs.Runs.{Moment, Run, fresh, turn, other, laid, accepted_in}
+use Rattle.protocol.specs.Runs.{Moment, Run, fresh, turn, call, laid, accepted_in}
 use Rattle.protocol.specs.declared.fault.RunFault.{RunFault}
 use Rattle.protocol.specs.declared.tally.Report.{Report}
 use Rattle.protocol.specs.declared.tally.Report.TheVariants.{Settled, Awaits}
@@ -71,7 +71,7 @@ run_has_room : {M : Type 0} (A : Algebra M) (s : Scene) {ts : List ℕ} {m : Mom
     → Run A s ts m book l → length (laid_copies s) ≤ length m.copies
 run_has_room A s (fresh f) = f.room
 run_has_room A s (turn p m' r t) = omega (arith, run_has_room A s r, t.same_length)
-run_has_room A s (other r) = run_has_room A s r
+run_has_room A s (call c r) = run_has_room A s r
 
 module _ {M : Type 0} (A : Algebra M) (law : Lawful A) (s : Scene) (boards : ℕ) (records : List CopyRecord)
     (edges : List Edge) (sound : sound_plan boards records edges ≡ true) (plan : LaidPlan s boards records edges)

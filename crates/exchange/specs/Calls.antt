@@ -7,20 +7,10 @@ use Rattle.medium.specs.Lanes.{Lanes}
 use Rattle.plan.specs.Links.{shape}
 use Rattle.plan.specs.declared.records.CopyRecord.{CopyRecord}
 use Rattle.plan.specs.declared.records.Edge.{Edge}
-use Rattle.protocol.specs.Runs.{Moment, Turn, seen, counts}
+use Rattle.protocol.specs.Runs.{Moment, Turn, turn_fault, seen, counts}
 use Rattle.protocol.specs.declared.tally.TurnCounts.{TurnCounts}
 use Rattle.protocol.specs.declared.fault.RunFault.{RunFault}
-use Rattle.protocol.specs.declared.fault.RunFault.TheVariants.{Short, Waiting, Board, Turns, Early}
-use Rattle.protocol.specs.Faults.{turn_limit}
-
--- why a turn is refused: no such board, then no turn left, then too little memory for the plan's copies
-abbrev pub turn_fault : {M : Type 0} → ℕ → List CopyRecord → ℕ → Moment M → Option RunFault
-turn_fault boards copies p m =
-    cond (nat_lt p boards)
-    (cond (nat_lt m.tally.turns turn_limit)
-    (cond (nat_le (length copies) (length m.copies)) None (Some (Short (length copies))))
-    (Some Turns))
-    (Some (Board p))
+use Rattle.protocol.specs.declared.fault.RunFault.TheVariants.{Short, Waiting, Board, Early}
 
 -- an accepted turn is a turn by the rules and answers its four numbers; a refused one leaves all as it was
 abbrev pub TurnAnswers : {M : Type 0} → Algebra M → ℕ → List CopyRecord → List Edge → ℕ → Moment M → Moment M

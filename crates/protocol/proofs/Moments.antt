@@ -7,7 +7,7 @@ use Rattle.plan.specs.Links.{Shape, items}
 use Rattle.protocol.specs.Frames.{brings, scan}
 use Rattle.protocol.specs.Turns.{State, Turned, lost}
 use Rattle.protocol.specs.Books.{Book, fed}
-use Rattle.protocol.specs.Runs.{Moment, Fresh, Turn, Run, fresh, turn, other, seen, laid, accepted_in}
+use Rattle.protocol.specs.Runs.{Moment, Fresh, Turn, Run, fresh, turn, call, seen, laid, accepted_in}
 use Rattle.protocol.proofs.Plan.{Plan}
 use Rattle.protocol.proofs.Invariant.{FreshState}
 use Rattle.protocol.proofs.Trips.{Trip, trip_push}
@@ -37,7 +37,7 @@ module _ {M : Type 0} (A : Algebra M) (s : Scene) where
   book_is_accepted (fresh {m} f) a b = sym (ap (λ x. x.j) (f.no_counts a b))
   book_is_accepted (turn {ts} {m} {book} {l} p m' r t) a b =
       fed_as_accepted A (laid A s) (seen A m) (seen A m') p book t.turned (book_is_accepted r) a b
-  book_is_accepted (other r) a b = book_is_accepted r a b
+  book_is_accepted (call c r) a b = book_is_accepted r a b
 
   module _ (P : Plan A) (tie : OfScene P s) where
     fresh_moment : (m : Moment M) → Fresh A s m → FreshState P (seen A m)
@@ -61,4 +61,4 @@ module _ {M : Type 0} (A : Algebra M) (s : Scene) where
     run_is_trip (turn {ts} {m} {book} {l} p m' r t) =
         let (o, f, h) = run_is_trip r in
         (o, f, trip_push (Step P) ts p o (seen A m) (seen A m') l _ h (turn_step p m m' t))
-    run_is_trip (other r) = run_is_trip r
+    run_is_trip (call c r) = run_is_trip r

@@ -1,26 +1,26 @@
 -- Every run over the laid plan of a scene keeps the promise.
-use Rattle.std.proofs.Common.{◌≡◌, ℕ, ◌+◌, ◌*◌, ◌<◌, ◌≤◌, ◌≢◌, ◌⊎◌, List, ◌++◌, length, get_or, sym, ap, ◌∙◌, subst}
+use Rattle.std.proofs.Common.{◌≡◌, ℕ, ◌+◌, ◌*◌, ◌<◌, ◌≤◌, ◌⊎◌, List, ◌++◌, length, get_or, sym, ap, ◌∙◌, subst}
 use Rattle.std.proofs.Common.{inl, inr, arith}
 use mathlib.Core.Path.{fun_ext}
 use Rattle.std.specs.List.{AllByRecursion}
 use Rattle.element.specs.Algebra.{Algebra, Lawful}
 use Rattle.scene.specs.Cells.{Scene, Sound}
-use Rattle.plan.specs.Links.{items, no_edge}
+use Rattle.plan.specs.Links.{no_edge}
 use Rattle.forest.specs.Forest.{laid_copies, laid_edges}
-use Rattle.protocol.specs.Books.{Book, lacks, HasAll, report_by}
-use Rattle.protocol.specs.Runs.{Moment, Run, seen, laid, link_at, accepted_in}
+use Rattle.protocol.specs.Books.{Book, HasAll, report_by}
+use Rattle.protocol.specs.Runs.{Moment, Run, seen, laid, accepted_in}
 use Rattle.protocol.specs.Promise.{Promise, Full, flat, board_of, HoldsOwn, HoldsTotal, EveryRunKeepsThePromise}
 use Rattle.protocol.proofs.Plan.{Plan}
 use Rattle.protocol.proofs.Tied.{OfScene}
-use Rattle.protocol.proofs.Pairs.{pairs, over_links}
-use Rattle.protocol.proofs.Invariant.{Inv, fresh_keeps, counts_in_order}
+use Rattle.protocol.proofs.Pairs.{pairs}
+use Rattle.protocol.proofs.Invariant.{Inv, fresh_keeps}
 use Rattle.protocol.proofs.Trips.{Trip}
 use Rattle.protocol.proofs.Steps.{Step, trip_inv}
 use Rattle.protocol.proofs.Holdings.{settled_boards_hold_totals, leaves_hold_own_sum_or_total}
-use Rattle.protocol.proofs.Circles.{accepted_plus_lacking, four_circles_an_edge_settle_all}
+use Rattle.protocol.proofs.Circles.{four_circles_an_edge_settle_all}
 use Rattle.protocol.proofs.Reports.{settled_report_has_all, has_all_settled_report, report_names_lowest_lacking}
 use Rattle.protocol.proofs.Moments.{book_is_accepted, run_is_trip}
-use Rattle.protocol.proofs.Tallies.{turns_counted, losses_counted, accepted_counted}
+use Rattle.protocol.proofs.Tallies.{turns_counted, losses_counted}
 
 module _ {M : Type 0} (A : Algebra M) (law : Lawful A) (s : Scene) (P : Plan A) (tie : OfScene P s)
     (ts : List ℕ) (m : Moment M) (book : Book) (l : ℕ) (run : Run A s ts m book l) where

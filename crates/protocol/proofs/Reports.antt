@@ -1,4 +1,4 @@
--- A report by any counts: settled exactly if the board has all its items, or else the lowest board whose items it lacks.
+-- A report by any counts: settled exactly if the board has all its items, or else the lowest board whose items lack.
 use Rattle.std.proofs.Common.{◌≡◌, ℕ, ◌<◌, ◌≤◌, ltb, refl, inl, inr, arith}
 use Rattle.std.proofs.lemmas.Bool.{cases_lt, lt-ltb, le-ltb, ltb-true}
 use Rattle.plan.specs.Links.{Shape, items}

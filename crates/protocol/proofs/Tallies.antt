@@ -7,7 +7,7 @@ use Rattle.scene.specs.Cells.{Scene}
 use Rattle.plan.specs.Links.{Shape}
 use Rattle.protocol.specs.Turns.{State, Turned, sum_others, lost}
 use Rattle.protocol.specs.Books.{Book}
-use Rattle.protocol.specs.Runs.{Moment, Run, fresh, turn, other, seen, laid, accepted_in, counts}
+use Rattle.protocol.specs.Runs.{Moment, Run, fresh, turn, call, seen, laid, accepted_in, counts}
 use Rattle.protocol.proofs.Turning.{j_grows}
 use Rattle.plan.specs.Sums.{sum_below}
 use Rattle.plan.proofs.Orders.{sum_same}
@@ -63,13 +63,13 @@ module _ {M : Type 0} (A : Algebra M) (s : Scene) where
   turns_counted (fresh {m} f) = ap (λ x. x.turns) f.no_turns
   turns_counted (turn {ts} {m} {book} {l} p m' r t) =
       ap (λ x. x.turns) t.counted ∙ ap (λ x. x + 1) (turns_counted r) ∙ sym (length_push ts p)
-  turns_counted (other r) = turns_counted r
+  turns_counted (call c r) = turns_counted r
 
   pub losses_counted : {ts : List ℕ} {m : Moment M} {book : Book} {l : ℕ} → Run A s ts m book l → m.tally.lost ≡ l
   losses_counted (fresh {m} f) = ap (λ x. x.lost) f.no_turns
   losses_counted (turn {ts} {m} {book} {l} p m' r t) =
       ap (λ x. x.lost) t.counted ∙ ap (λ x. x + lost A (laid A s) (seen A m) (seen A m') p) (losses_counted r)
-  losses_counted (other r) = losses_counted r
+  losses_counted (call c r) = losses_counted r
 
   pub accepted_counted : {ts : List ℕ} {m : Moment M} {book : Book} {l : ℕ} → Run A s ts m book l
       → m.tally.accepted ≡ over_links s.boards (accepted_in m.links)
@@ -80,4 +80,4 @@ module _ {M : Type 0} (A : Algebra M) (s : Scene) where
       let now = counts A (laid A s) (seen A m) (seen A m') p in
       let more = accepted_more A (laid A s) (seen A m) (seen A m') p t.turned t.below in
       ap (λ x. x.accepted) t.counted ∙ ap (λ x. x + now.accepted) (accepted_counted r) ∙ sym more
-  accepted_counted (other r) = accepted_counted r
+  accepted_counted (call c r) = accepted_counted r

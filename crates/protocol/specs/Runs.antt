@@ -1,17 +1,21 @@
--- Runs: every moment that turns of any boards, in any order, lead to from a fresh start.
+-- Runs: every moment that turns of any boards, and any other calls, in any order, lead to from a fresh start.
 use Rattle.std.specs.Prelude.{◌≡◌, ℕ, ◌+◌, ◌-◌, ◌*◌, ◌<◌, ◌≤◌, cond, List, [], ◌∷◌, ◌++◌, length, get_or}
-use Rattle.std.specs.Prelude.{slice_index_or}
+use Rattle.std.specs.Prelude.{Option, Some, None, nat_le, nat_lt, slice_index_or}
 use Rattle.element.specs.Algebra.{Algebra}
 use Rattle.medium.specs.Lanes.{Lanes, is_lane}
 use Rattle.scene.specs.Cells.{Scene}
 use Rattle.scene.specs.Sums.{own_sum}
 use Rattle.plan.specs.Links.{Shape, shape, no_copy}
+use Rattle.plan.specs.declared.records.CopyRecord.{CopyRecord}
 use Rattle.forest.specs.Forest.{laid_copies, laid_edges}
 use Rattle.protocol.specs.declared.table.Link.{Link}
 use Rattle.protocol.specs.declared.tally.Tally.{Tally}
 use Rattle.protocol.specs.declared.tally.TurnCounts.{TurnCounts}
+use Rattle.protocol.specs.declared.fault.RunFault.{RunFault}
+use Rattle.protocol.specs.declared.fault.RunFault.TheVariants.{Short, Board, Turns}
+use Rattle.protocol.specs.Faults.{turn_limit}
 use Rattle.protocol.specs.Turns.{State, Turned, sum_others, puts, lost}
-use Rattle.protocol.specs.Books.{Book, blank, fed}
+use Rattle.protocol.specs.Books.{Book, blank, fed, lowest_unsettled}
 
 -- what the calls of a run are given
 pub record Moment (M : Type 0) : Type 0 where
@@ -28,6 +32,15 @@ no_link = record { i = 0; j = 0 }
 
 abbrev pub no_tally : Tally
 no_tally = record { turns = 0; puts = 0; lost = 0; accepted = 0 }
+
+-- why a turn is refused: no such board, then no turn left, then too little memory for the plan's copies
+abbrev pub turn_fault : {M : Type 0} → ℕ → List CopyRecord → ℕ → Moment M → Option RunFault
+turn_fault boards copies p m =
+    cond (nat_lt p boards)
+    (cond (nat_lt m.tally.turns turn_limit)
+    (cond (nat_le (length copies) (length m.copies)) None (Some (Short (length copies))))
+    (Some Turns))
+    (Some (Board p))
 
 -- the record of the link from a to b in the flat table
 abbrev pub link_at : List Link → ℕ → ℕ → Link
@@ -87,11 +100,24 @@ module _ {M : Type 0} (A : Algebra M) (s : Scene) where
         → slice_index_or m.copies c A.zero
         ≡ own_sum A s (get_or (laid_copies s) c no_copy).board (get_or (laid_copies s) c no_copy).vertex
 
-  -- the moments of a run, by the boards that turned, the book, and the puts that left no frame;
-  -- any other call, a report, a refused turn or an end that comes too early, leaves all as it is
+  -- a call that leaves all as it is
+  pub data Still (m : Moment M) : Type 0 where
+    -- a report of any board, be there such a board or not
+    report : (p : ℕ) → Still m
+    -- whether every board is settled; the tally so far
+    all_settled : Still m
+    tally : Still m
+    -- a turn that is refused, in the run's memory or in any that is given for it
+    refused_turn : (p : ℕ) (given : List M) (f : RunFault)
+        → turn_fault s.boards (laid_copies s) p (moment m.tally m.links given m.lanes) ≡ Some f → Still m
+    -- an end that comes too early: some board is not settled
+    early_end : lowest_unsettled laid (accepted_in m.links) < s.boards → Still m
+
+  -- the moments of a run, by the boards that turned, the book, and the puts that left no frame: turns, which may lose or
+  -- double, and calls that leave all as it is, in any order
   pub data Run : List ℕ → Moment M → Book → ℕ → Type 0 where
     fresh : {m : Moment M} → Fresh m → Run [] m blank 0
     turn : {ts : List ℕ} {m : Moment M} {book : Book} {l : ℕ} (p : ℕ) (m' : Moment M)
         → Run ts m book l → Turn A laid p m m'
         → Run (ts ++ (p ∷ [])) m' (fed laid p m.lanes book) (l + lost A laid (seen A m) (seen A m') p)
-    other : {ts : List ℕ} {m : Moment M} {book : Book} {l : ℕ} → Run ts m book l → Run ts m book l
+    call : {ts : List ℕ} {m : Moment M} {book : Book} {l : ℕ} → Still m → Run ts m book l → Run ts m book l
