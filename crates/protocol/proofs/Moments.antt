@@ -1,5 +1,7 @@
--- Every moment of a run: a trip from a fresh state leads to it, and its book is what its table counts.
-use Rattle.std.proofs.Common.{◌≡◌, ℕ, ◌<◌, List, sym, refl, ap, ◌∙◌, subst, inl, inr}
+-- Every moment of a run: a trip from a fresh state leads to it, its book is what its table counts, and its tally counts
+-- the turns and the losses.
+use Rattle.std.proofs.Common.{◌≡◌, ℕ, ◌+◌, ◌<◌, List, [], ◌∷◌, length, sym, refl, ap, ◌∙◌, subst, inl, inr}
+use Rattle.std.proofs.lemmas.List.{length-append}
 use Rattle.std.proofs.lemmas.Bool.{cases_eq, cases_lt, eq-eqb, ne_eqb, lt-ltb, le-ltb}
 use Rattle.element.specs.Algebra.{Algebra}
 use Rattle.scene.specs.Cells.{Scene}
@@ -38,6 +40,19 @@ module _ {M : Type 0} (A : Algebra M) (s : Scene) where
   book_is_accepted (turn {ts} {m} {book} {l} p m' r t) a b =
       fed_as_accepted A (laid A s) (seen A m) (seen A m') p book t.turned (book_is_accepted r) a b
   book_is_accepted (call c r) a b = book_is_accepted r a b
+
+  pub turns_counted : {ts : List ℕ} {m : Moment M} {book : Book} {l : ℕ} → Run A s ts m book l
+      → m.tally.turns ≡ length ts
+  turns_counted (fresh f) = ap (λ x. x.turns) f.no_turns
+  turns_counted (turn {ts} p m' r t) =
+      ap (λ x. x.turns) t.counted ∙ ap (λ x. x + 1) (turns_counted r) ∙ sym (length-append ts (p ∷ []))
+  turns_counted (call c r) = turns_counted r
+
+  pub losses_counted : {ts : List ℕ} {m : Moment M} {book : Book} {l : ℕ} → Run A s ts m book l → m.tally.lost ≡ l
+  losses_counted (fresh f) = ap (λ x. x.lost) f.no_turns
+  losses_counted (turn {ts} {m} p m' r t) =
+      ap (λ x. x.lost) t.counted ∙ ap (λ x. x + lost A (laid A s) (seen A m) (seen A m') p) (losses_counted r)
+  losses_counted (call c r) = losses_counted r
 
   module _ (P : Plan A) (tie : OfScene P s) where
     fresh_moment : (m : Moment M) → Fresh A s m → FreshState P (seen A m)

@@ -19,8 +19,7 @@ use Rattle.protocol.proofs.Steps.{Step, trip_inv}
 use Rattle.protocol.proofs.Holdings.{settled_boards_hold_totals, leaves_hold_own_sum_or_total}
 use Rattle.protocol.proofs.Circles.{four_circles_an_edge_settle_all}
 use Rattle.protocol.proofs.Reports.{settled_report_has_all, has_all_settled_report, report_names_lowest_lacking}
-use Rattle.protocol.proofs.Moments.{book_is_accepted, run_is_trip}
-use Rattle.protocol.proofs.Tallies.{turns_counted, losses_counted}
+use Rattle.protocol.proofs.Moments.{book_is_accepted, turns_counted, losses_counted, run_is_trip}
 
 module _ {M : Type 0} (A : Algebra M) (law : Lawful A) (s : Scene) (P : Plan A) (tie : OfScene P s)
     (ts : List ℕ) (m : Moment M) (book : Book) (l : ℕ) (run : Run A s ts m book l) where
