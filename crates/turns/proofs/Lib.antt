@@ -1,4 +1,3 @@
-pub mod Gathered
 pub mod Putting
 pub mod Taking
 pub mod Turns

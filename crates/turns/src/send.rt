@@ -108,8 +108,13 @@ impl BoardView<'_> {
             (λ q. nat_le (length (edges_between self.now.plan.now.edges.now q self.now.board))
             (accepted_in table.now.links q self.now.board)) }
     {
-        (0..self.plan.boards()).all(|q| q == self.board
-            || all_risen(&LinkView::of(self.plan, q, self.board), table))
+        let mut gathered = true;
+        // Kept: a `for` and no `all`: no proof names a step of it, so that a wrong test shows here.
+        for q in 0..self.plan.boards() {
+            gathered &= q == self.board
+                || all_risen(&LinkView::of(self.plan, q, self.board), table);
+        }
+        gathered
     }
 
     // The board puts what is due to each other board, in ascending order.
