@@ -1,4 +1,4 @@
--- Every moment of a run: a trip from a fresh state leads to it, its book is what its table counts, and its tally counts
+-- Every moment of a run: a trip from a fresh state leads to it, its book is what its table counts, its tally counts
 -- the turns and the losses.
 use Rattle.std.proofs.Common.{◌≡◌, ℕ, ◌+◌, ◌<◌, List, [], ◌∷◌, length, sym, refl, ap, ◌∙◌, subst, inl, inr}
 use Rattle.std.proofs.lemmas.List.{length-append}

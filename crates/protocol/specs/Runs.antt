@@ -113,8 +113,8 @@ module _ {M : Type 0} (A : Algebra M) (s : Scene) where
     -- an end that comes too early: some board is not settled
     early_end : lowest_unsettled laid (accepted_in m.links) < s.boards → Still m
 
-  -- the moments of a run, by the boards that turned, the book, and the puts that left no frame: turns, which may lose or
-  -- double, and calls that leave all as it is, in any order
+  -- the moments of a run, by the boards that turned, the book, and the puts that left no frame: turns of any boards
+  -- and calls that leave all as it is, in any order
   pub data Run : List ℕ → Moment M → Book → ℕ → Type 0 where
     fresh : {m : Moment M} → Fresh m → Run [] m blank 0
     turn : {ts : List ℕ} {m : Moment M} {book : Book} {l : ℕ} (p : ℕ) (m' : Moment M)
