@@ -18,7 +18,7 @@ use Rattle.exchange.specs.Calls.{TurnAnswers}
 use Rattle.exchange.specs.Going.{LaidPlan, Carried, GoesOn}
 use Rattle.exchange.proofs.Promises.{carried_nowhere, carried_on, carried_further}
 use Rattle.circles.specs.Circles.{circles, TurnedBelow, CircleAnswers, Circled, SettleAnswers, Settles}
-use Rattle.circles.specs.Circles.{UnsettledCircles, none, one_more, unsettled}
+use Rattle.circles.specs.Circles.{Ascending, no_turn, next_turn, UnsettledCircles, none, one_more, unsettled}
 
 pub unsettled_from : (b : Bool) → not b ≡ false → b ≡ true
 unsettled_from true e = refl
@@ -31,6 +31,7 @@ module _ {M : Type 0} (A : Algebra M) (law : Lawful A) (boards : ℕ) (records :
 
     pub no_board_turned : (m : Moment M) → Below 0 m m
     no_board_turned m = record {
+      made = no_turn;
       turns = omega arith;
       carried = λ s laid. carried_nowhere A law s laid.sound m;
     }
@@ -45,6 +46,8 @@ module _ {M : Type 0} (A : Algebra M) (law : Lawful A) (boards : ℕ) (records :
         let next : range_with_len 0 p ++ (p ∷ []) ≡ range_with_len 0 (p + 1)
         = sym (counting_next p) ∙ ap (range_with_len 0) (sym (add-one p)) in
         record {
+          made = subst (λ (k : ℕ). Ascending A boards records edges m k m₂) (sym (add-one p))
+              (next_turn p m₁ m₂ n so_far.made answer);
           turns = omega (arith, one, so_far.turns);
           carried = λ s laid.
               subst (λ (us : List ℕ). Carried A s m m₂ us) next

@@ -11,6 +11,8 @@ use Rattle.protocol.specs.Books.{lowest_unsettled}
 use Rattle.protocol.specs.Faults.{turn_limit}
 use Rattle.protocol.specs.Runs.{Moment, turn_fault, accepted_in}
 use Rattle.protocol.specs.declared.fault.RunFault.{RunFault}
+use Rattle.protocol.specs.declared.tally.TurnCounts.{TurnCounts}
+use Rattle.exchange.specs.Calls.{TurnAnswers}
 use Rattle.exchange.specs.Going.{LaidPlan, Carried}
 
 -- the boards that turn in k ascending circles
@@ -48,8 +50,15 @@ abbrev pub unsettled : {M : Type 0} → ℕ → List Edge → Moment M → Bool
 unsettled boards edges m = nat_lt (lowest_unsettled (shape boards edges) (accepted_in m.links)) boards
 
 module _ {M : Type 0} (A : Algebra M) (boards : ℕ) (records : List CopyRecord) (edges : List Edge) where
-  -- the turns of the boards below k, ascending: they carry every run of the laid plan on
+  -- accepted turns of the boards below k, ascending, each made where the one before it led
+  pub data Ascending (m : Moment M) : ℕ → Moment M → Type 0 where
+    no_turn : Ascending m 0 m
+    next_turn : (p : ℕ) (m₁ m₂ : Moment M) (n : TurnCounts) → Ascending m p m₁
+        → TurnAnswers A boards records edges p m₁ m₂ (Ok n) → Ascending m (suc p) m₂
+
+  -- these turns lead from m to m', and carry every run of the laid plan on
   pub record TurnedBelow (k : ℕ) (m m' : Moment M) : Type 0 where
+    pub made : Ascending m k m'
     pub turns : m'.tally.turns ≡ m.tally.turns + k
     pub carried : (s : Scene) → LaidPlan s boards records edges → Carried A s m m' (range_with_len 0 k)
 

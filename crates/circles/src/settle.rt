@@ -1,5 +1,6 @@
 // Ascending circles, until every board is settled.
 ghost use Rattle.circles.specs.Circles.{CircleAnswers, Circled, SettleAnswers, Settles};
+ghost use Rattle.protocol.specs.Promise.{EveryRunKeepsThePromise};
 ghost use Rattle.protocol.specs.Runs.{moment};
 
 use element::element::Element;
@@ -9,7 +10,7 @@ use plan::view::PlanView;
 use protocol::fault::RunFault;
 use protocol::table::LinkTable;
 
-// One turn of each board, ascending.
+// One turn of each board, ascending. Where one is refused, those made till then stand.
 // Kept: these five parameters, as callers and clauses have them.
 pub fn circle<E: Element, D: Medium>(
     turning: &mut Turning,
@@ -37,6 +38,7 @@ pub fn circle<E: Element, D: Medium>(
 }
 
 // Circles until every board is settled, looked at before each, or as many as allowed; says whether all are settled.
+// Where a circle is refused, the turns made till then stand.
 pub fn settle<E: Element, D: Medium>(
     turning: &mut Turning,
     plan: &PlanView,
@@ -55,6 +57,7 @@ pub fn settle<E: Element, D: Medium>(
         copies.old (D.Medium.lanes medium.old))
         (moment turning.new.tally table.new.links copies.new
         (D.Medium.lanes medium.new)) result }
+    ensures promise { EveryRunKeepsThePromise E E.Element.algebra }
 {
     for _ in 0..limit {
         if turning.all_settled(plan, table) {

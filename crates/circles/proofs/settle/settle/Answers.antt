@@ -1,6 +1,7 @@
 -- One circle more.
 use Rattle.std.proofs.Common.{◌≡◌, length, sym, ◌∙◌, arith}
 use Rattle.std.proofs.lemmas.Result.{err_from_is_err_and}
+use Rattle.protocol.proofs.Theorem.{promise_holds}
 use Rattle.circles.specs.Circles.{none}
 use Rattle.circles.proofs.Turns.{circles_carry, circle_more, next_circle_refused}
 use Rattle.circles.proofs.settle.settle.Goals as goal
@@ -9,6 +10,7 @@ pub loop-init : goal.loop-init
 loop-init g c =
     let plan = c.args.plan.now in record {
       rounds = none;
+      promise = promise_holds g.E.Element.algebra g.met.E.Element.lawful;
       carried = circles_carry g.E.Element.algebra g.met.E.Element.lawful plan.boards plan.copies.now plan.edges.now
           _ _ 0 none;
     }
@@ -31,5 +33,6 @@ loop-preserved g c =
     c.loop.invariant.rounds (sym c.all_settled.ensures ∙ c.if-all_settled.false) c.in_ok-circle.ensures.exact in
     record {
       rounds = rounds;
+      promise = c.loop.invariant.promise;
       carried = circles_carry A law plan.boards plan.copies.now plan.edges.now _ _ _ rounds;
     }

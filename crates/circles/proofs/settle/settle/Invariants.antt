@@ -1,4 +1,5 @@
 -- So far as many circles were made as the loop counts, and before each some board was not settled.
+use Rattle.protocol.specs.Promise.{EveryRunKeepsThePromise}
 use Rattle.protocol.specs.Runs.{moment}
 use Rattle.scene.specs.Cells.{Scene}
 use Rattle.exchange.specs.Going.{LaidPlan, Carried}
@@ -13,6 +14,7 @@ invariant-loop g l =
     let now = moment l.turning.tally l.table.links l.copies (lanes l.medium) in
     record {
       rounds : UnsettledCircles A l.plan.boards l.plan.copies.now l.plan.edges.now start l.counter now;
+      promise : EveryRunKeepsThePromise _ A;
       carried : (s : Scene) → LaidPlan s l.plan.boards l.plan.copies.now l.plan.edges.now
           → Carried A s start now (circles l.plan.boards l.counter);
     }
