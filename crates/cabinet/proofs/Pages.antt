@@ -1,10 +1,12 @@
 -- Pages grow by whole lines.
 use Rattle.std.proofs.Common.{◌≡◌, ℕ, zero, suc, ◌<◌, ◌⊎◌, List, [], ◌∷◌, ◌++◌, sym, refl, ap, ◌∙◌, ap₂, inl}
-use Rattle.std.proofs.Common.{inr, append-nil, arith}
+use Rattle.std.proofs.Common.{inr, append-nil, arith, Result, Vec, vec_items}
+use Rattle.std.proofs.lemmas.Result.{IfOk-weaker, MatchResult-weaker}
 use Rattle.element.specs.Algebra.{Algebra}
 use Rattle.plan.specs.declared.records.CopyRecord.{CopyRecord}
 use Rattle.protocol.specs.declared.tally.Report.{Report}
-use Rattle.cabinet.specs.Pages.{copies_page, page_of, boards_page}
+use Rattle.cabinet.specs.Pages.{copies_page, page_of, boards_page, Paged, refused_page}
+use Rattle.refusals.specs.declared.refusal.Refusal.{Refusal}
 
 module _ {M : Type 0} (A : Algebra M) where
   no_values : (rs : List CopyRecord) → copies_page A rs [] ≡ []
@@ -30,3 +32,9 @@ module _ {M : Type 0} (A : Algebra M) (records : List CopyRecord) (values : List
   same_reports report report' (suc n) h =
       ap₂ ◌++◌ (same_reports report report' n (λ p l. h p (omega arith)))
       (ap (λ r. page_of A (λ _. r) records values n) (h n (omega arith)))
+
+-- what follows for every page follows for the one that a call answers
+pub paged_weaker : {Z E : Type 0} (r : Result (Result (Vec ℕ Z) E) Refusal) (P Q : List ℕ → Type 0)
+    → ((page : List ℕ) → P page → Q page) → Paged r P → Paged r Q
+paged_weaker r P Q follows h = MatchResult-weaker r h
+    (λ page. IfOk-weaker page _ _ (λ p. follows (vec_items p))) (λ f. follows (refused_page f))

@@ -1,10 +1,13 @@
 -- A run that is listed is one that circles led to from a fresh start.
 use Rattle.std.proofs.Common.{◌≡◌, ℕ, ◌+◌, ◌*◌, ◌/◌, ◌%◌, ◌<◌, ◌≤◌, Bool, not, List, [], ◌++◌, length, Some, None, Ok}
-use Rattle.std.proofs.Common.{Err, Result, refl, ap, ◌∙◌, subst, inl, inr, le_trans, mul-le-mul_right}
+use Rattle.std.proofs.Common.{rules, Err, Result, refl, ap, ◌∙◌, subst, inl, inr, le_trans, mul-le-mul_right}
 use Rattle.std.proofs.Common.{Option, add-mul}
 use Rattle.std.proofs.Common.{mul-le-mul_left, arith}
 use Rattle.std.proofs.lemmas.Bool.{cases_lt, eq-eqb, le-leb, lt-ltb}
 use Rattle.element.specs.Algebra.{Algebra, Lawful}
+use Rattle.element.specs.Models.{force_algebra, depth_algebra, tags_algebra}
+use Rattle.element.specs.Forces.{force_lawful}
+use Rattle.element.specs.Unions.{tags_lawful}
 use Rattle.medium.specs.Lanes.{Lanes}
 use Rattle.scene.specs.Cells.{Scene}
 use Rattle.plan.specs.declared.records.CopyRecord.{CopyRecord}
@@ -16,6 +19,7 @@ use Rattle.protocol.specs.Runs.{Moment, turn_fault}
 use Rattle.protocol.specs.declared.fault.RunFault.{RunFault}
 use Rattle.protocol.specs.declared.fault.RunFault.TheVariants.{Waiting}
 use Rattle.protocol.specs.declared.table.Link.{Link}
+use Rattle.protocol.proofs.Theorem.{promise_holds}
 use Rattle.exchange.specs.Calls.{FirstWaiting, IdleBefore}
 use Rattle.exchange.specs.Going.{LaidPlan, Kept, BeginAnswers}
 use Rattle.exchange.specs.Loading.{load_fault}
@@ -23,9 +27,18 @@ use Rattle.listing.specs.declared.lines.PlanNumbers.{PlanNumbers}
 use Rattle.circles.specs.Circles.{SettleAnswers}
 use Rattle.circles.proofs.Turns.{circles_carry, circles_turns}
 use Rattle.cabinet.specs.Pages.{head_page, numbers_of, boards_page, reports}
-use Rattle.cabinet.specs.Listed.{Listed, RunTold, circle_limit}
+use Rattle.cabinet.specs.Listed.{EveryRunOfEachKind, Listed, RunTold, circle_limit}
 use Rattle.cabinet.specs.Pages.{refused_page}
 use Rattle.refusals.specs.declared.refusal.Refusal.TheVariants.{Run}
+
+-- ---- the promise
+
+pub each_kind_keeps_the_promise : EveryRunOfEachKind
+each_kind_keeps_the_promise = record {
+  forces = promise_holds force_algebra force_lawful;
+  depths = promise_holds depth_algebra (Prim.search rules);
+  tags = promise_holds tags_algebra tags_lawful;
+}
 
 -- ---- lanes
 
@@ -53,16 +66,16 @@ loading_is_allowed A s records memory kind room = rw (eq-eqb s.kind A.kind kind,
 
 -- a run that does not begin is refused for the first lane in which a frame waits
 pub run_refused : {M : Type 0} (A : Algebra M) (s : Scene) (records : List CopyRecord) (lanes : Lanes)
-    (memory memory' : List M) (links links' : List Link) (f : RunFault) (page : List ℕ)
+    (memory memory' : List M) (links links' : List Link) (f : RunFault)
     → s.kind ≡ A.kind → length records ≤ length memory
-    → BeginAnswers A s records lanes memory memory' links links' (Err f) → page ≡ refused_page (Run f)
-    → RunTold A s lanes page
-run_refused A s records lanes memory memory' links links' f page kind room (why, _, _) told = elim why [
+    → BeginAnswers A s records lanes memory memory' links links' (Err f)
+    → RunTold A s lanes (refused_page (Run f))
+run_refused A s records lanes memory memory' links links' f kind room (why, _, _) = elim why [
   | inl some ↦
       absurd (not_both (load_fault A s records memory) (loading_is_allowed A s records memory kind room) some)
   | inr (_, (j, first, waits)) ↦ record {
     fresh = λ idle. absurd (waiting_is_not_idle lanes j 64 first.a_lane idle first);
-    waits = λ k w. told ∙ ap (λ x. refused_page (Run x)) (waits
+    waits = λ k w. ap (λ x. refused_page (Run x)) (waits
         ∙ ap (λ n. Waiting (n / 8) (n % 8)) (one_lane_is_first lanes j k first w));
   }
 ]

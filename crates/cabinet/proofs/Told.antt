@@ -1,13 +1,12 @@
 -- What a page tells, by what preparing the scene answered.
 use Rattle.std.proofs.Common.{◌≡◌, ℕ, ◌≤◌, true, false, cond, ◌&&◌, List, [], ◌∷◌, ◌++◌, length, take, drop, Ok}
-use Rattle.std.proofs.Common.{Err, sym, refl, ap, ◌∙◌, subst, arith, Bor}
+use Rattle.std.proofs.Common.{Err, sym, refl, ap, ◌∙◌, subst, arith}
 use Rattle.std.proofs.lemmas.List.{take_at}
 use Rattle.std.proofs.lemmas.Bool.{both_ways}
 use Rattle.medium.specs.Lanes.{Lanes}
 use Rattle.scene.specs.Cells.{Scene, Sound}
 use Rattle.scene.specs.Layout.{scene_of}
 use Rattle.scene.specs.Rules.{Rule, all_hold, admits, scene_rules, verdict}
-use Rattle.scene.specs.declared.view.SceneView.{SceneView}
 use Rattle.plan.specs.Sound.{sound_plan}
 use Rattle.plan.specs.declared.records.CopyRecord.{CopyRecord}
 use Rattle.plan.specs.declared.records.Edge.{Edge}
@@ -18,7 +17,7 @@ use Rattle.laying.specs.declared.laying.LaidCounts.{LaidCounts}
 use Rattle.laying.specs.declared.fault.LayFault.TheVariants.{Copies, Edges}
 use Rattle.exchange.specs.Going.{LaidPlan}
 use Rattle.cabinet.specs.Listed.{record_room, KindTold, SceneTold, Told, PageTold}
-use Rattle.cabinet.specs.Prepared.{Unprepared}
+use Rattle.cabinet.specs.Prepared.{Hindrance}
 use Rattle.cabinet.specs.Pages.{refused_page}
 use Rattle.refusals.specs.declared.refusal.Refusal.{Refusal}
 use Rattle.refusals.specs.declared.refusal.Refusal.TheVariants.{Scene as SceneRefused, Lay, Plan, Run}
@@ -54,41 +53,35 @@ no_fault (r ∷ rs) e =
     (elim r.0 as (λ t. (t && all_hold rs ≡ true) → cond t (verdict rs) (Err r.1) ≡ Ok tt)
     [ true ↦ no_fault rs | false ↦ (λ x. absurd (both_ways false refl x)) ]) e
 
-module _ (bytes : List ℕ) (lanes : Lanes) (page : List ℕ) where
-  scene_told : admits bytes ≡ true → SceneTold (scene_of bytes) lanes page → PageTold bytes lanes page
-  scene_told ok told =
+module _ (bytes : List ℕ) (lanes : Lanes) where
+  scene_told : (page : List ℕ) → admits bytes ≡ true → SceneTold (scene_of bytes) lanes page
+      → PageTold bytes lanes page
+  scene_told page ok told =
       subst (λ v. Told v (scene_of bytes) lanes page) (sym (no_fault (scene_rules bytes) ok)) told
 
-  pub run_told : admits bytes ≡ true → length (laid_copies (scene_of bytes)) ≤ record_room
+  pub run_told : (page : List ℕ) → admits bytes ≡ true → length (laid_copies (scene_of bytes)) ≤ record_room
       → length (laid_edges (scene_of bytes)) ≤ record_room → KindTold (scene_of bytes) lanes page
       → PageTold bytes lanes page
-  run_told ok few_copies few_edges told = scene_told ok record {
+  run_told page ok few_copies few_edges told = scene_told page ok record {
     many_copies = λ l. absurd (omega arith);
     many_edges = λ _ l. absurd (omega arith);
     runs = λ _ _. told;
   }
 
-  pub refusal_told : (f : Refusal) (before after : SceneView) (taken : Bor (List ℕ))
-      (cs cs' : List CopyRecord) (es es' : List Edge) → taken.now ≡ bytes
-      → length cs ≡ record_room → length es ≡ record_room
-      → Unprepared bytes f before after taken cs cs' es es' → page ≡ refused_page f → PageTold bytes lanes page
-  refusal_told (SceneRefused f) before after taken cs cs' es es' same cn en u told =
-      subst (λ v. Told v (scene_of bytes) lanes page) (sym u.0) told
-  refusal_told (Lay (Copies n)) before after taken cs cs' es es' same cn en u told =
-      let ok : admits bytes ≡ true = subst (λ b. admits b ≡ true) (ap (λ x. x.now) u.0 ∙ same) after.ok in
-      let (needed, short) = u.1.short in
-      scene_told ok record {
-        many_copies = λ _. told ∙ ap (λ k. refused_page (Lay (Copies k))) needed;
-        many_edges = λ l _. absurd (omega (arith, l, needed, short, cn));
-        runs = λ l _. absurd (omega (arith, l, needed, short, cn));
-      }
-  refusal_told (Lay (Edges n)) before after taken cs cs' es es' same cn en u told =
-      let ok : admits bytes ≡ true = subst (λ b. admits b ≡ true) (ap (λ x. x.now) u.0 ∙ same) after.ok in
-      let (needed, room, short) = u.1.short in
-      scene_told ok record {
-        many_copies = λ l. absurd (omega (arith, l, room, cn));
-        many_edges = λ _ _. told ∙ ap (λ k. refused_page (Lay (Edges k))) needed;
-        runs = λ _ l. absurd (omega (arith, l, needed, short, en));
-      }
-  refusal_told (Plan f) before after taken cs cs' es es' same cn en u told = absurd u
-  refusal_told (Run f) before after taken cs cs' es es' same cn en u told = absurd u
+  pub refusal_told : (f : Refusal) (copies : List CopyRecord) (edges : List Edge)
+      → length copies ≡ record_room → length edges ≡ record_room → Hindrance bytes f copies edges
+      → PageTold bytes lanes (refused_page f)
+  refusal_told (SceneRefused f) copies edges cn en broken =
+      subst (λ v. Told v (scene_of bytes) lanes (refused_page (SceneRefused f))) (sym broken) refl
+  refusal_told (Lay (Copies n)) copies edges cn en (ok, (needed, short)) = scene_told _ ok record {
+    many_copies = λ _. ap (λ k. refused_page (Lay (Copies k))) needed;
+    many_edges = λ l _. absurd (omega (arith, l, needed, short, cn));
+    runs = λ l _. absurd (omega (arith, l, needed, short, cn));
+  }
+  refusal_told (Lay (Edges n)) copies edges cn en (ok, (needed, room, short)) = scene_told _ ok record {
+    many_copies = λ l. absurd (omega (arith, l, room, cn));
+    many_edges = λ _ _. ap (λ k. refused_page (Lay (Edges k))) needed;
+    runs = λ _ l. absurd (omega (arith, l, needed, short, en));
+  }
+  refusal_told (Plan f) copies edges cn en never = absurd never
+  refusal_told (Run f) copies edges cn en never = absurd never

@@ -2,6 +2,9 @@
 use Rattle.std.specs.Prelude.{◌≡◌, ℕ, ◌/◌, ◌%◌, ◌<◌, ◌≤◌, List, [], length, Ok, Err, Result}
 use Rattle.element.specs.Algebra.{Algebra}
 use Rattle.element.specs.Models.{force_algebra, depth_algebra, tags_algebra}
+use Rattle.element.specs.declared.force.Force.{Force}
+use Rattle.element.specs.declared.depth.Depth.{Depth}
+use Rattle.element.specs.declared.tags.Tags.{Tags}
 use Rattle.medium.specs.Lanes.{Lanes}
 use Rattle.scene.specs.Cells.{Scene}
 use Rattle.scene.specs.Layout.{scene_of}
@@ -11,6 +14,7 @@ use Rattle.forest.specs.Forest.{laid_copies, laid_edges}
 use Rattle.laying.specs.declared.fault.LayFault.TheVariants.{Copies, Edges}
 use Rattle.protocol.specs.Books.{Book, blank, lowest_unsettled}
 use Rattle.protocol.specs.Runs.{Moment, accepted_in, laid}
+use Rattle.protocol.specs.Promise.{EveryRunKeepsThePromise}
 use Rattle.exchange.specs.Calls.{FirstWaiting, IdleBefore}
 use Rattle.exchange.specs.Going.{Kept}
 use Rattle.protocol.specs.declared.fault.RunFault.TheVariants.{Waiting}
@@ -18,6 +22,12 @@ use Rattle.circles.specs.Circles.{circles, UnsettledCircles}
 use Rattle.cabinet.specs.Pages.{listing}
 use Rattle.cabinet.specs.Pages.{refused_page}
 use Rattle.refusals.specs.declared.refusal.Refusal.TheVariants.{Scene as SceneRefused, Lay, Run}
+
+-- every run of every scene keeps the promise, whichever of the three types its elements have
+pub record EveryRunOfEachKind : Type 0 where
+  pub forces : EveryRunKeepsThePromise Force force_algebra
+  pub depths : EveryRunKeepsThePromise Depth depth_algebra
+  pub tags : EveryRunKeepsThePromise Tags tags_algebra
 
 -- for how many records of each sort there is memory, and how many circles are made at most
 abbrev pub record_room : ℕ

@@ -1,5 +1,5 @@
 -- The bytes of a page: lines, one after the other.
-use Rattle.std.specs.Prelude.{ℕ, zero, suc, List, [], ◌∷◌, ◌++◌, length}
+use Rattle.std.specs.Prelude.{ℕ, zero, suc, List, [], ◌∷◌, ◌++◌, length, Result, MatchResult, IfOk, Vec, vec_items}
 use Rattle.element.specs.Algebra.{Algebra}
 use Rattle.element.specs.Numbers.{first_of, last_of}
 use Rattle.scene.specs.Cells.{Scene}
@@ -66,3 +66,8 @@ listing A s records edges m =
 -- the one line that tells a refusal: its first number and its last
 abbrev pub refused_page : Refusal → List ℕ
 refused_page f = refusal_line (first_of (refusal_numbers f)) (last_of (refusal_numbers f))
+
+-- this holds of the page, or of a refusal's; or there was no memory for the page
+abbrev pub Paged : {Z E : Type 0} → Result (Result (Vec ℕ Z) E) Refusal → (List ℕ → Type 0) → Type 0
+Paged result Holds =
+    MatchResult result (λ page. IfOk page (λ p. Holds (vec_items p))) (λ f. Holds (refused_page f))

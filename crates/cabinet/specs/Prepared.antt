@@ -1,21 +1,25 @@
 -- Why a scene is not prepared, and what is left then.
-use Rattle.std.specs.Prelude.{◌≡◌, ℕ, List, Err}
-use Rattle.std.specs.Borrow.{Bor}
+use Rattle.std.specs.Prelude.{◌≡◌, ℕ, true, List, Err}
 use Rattle.plan.specs.declared.records.CopyRecord.{CopyRecord}
 use Rattle.plan.specs.declared.records.Edge.{Edge}
 use Rattle.scene.specs.Layout.{scene_of}
-use Rattle.scene.specs.Rules.{scene_rules, verdict}
+use Rattle.scene.specs.Rules.{admits, scene_rules, verdict}
 use Rattle.scene.specs.declared.view.SceneView.{SceneView}
-use Rattle.laying.specs.Laid.{Unlaid}
+use Rattle.laying.specs.Laid.{Short}
 use Rattle.refusals.specs.declared.refusal.Refusal.{Refusal}
 use Rattle.refusals.specs.declared.refusal.Refusal.TheVariants.{Scene, Lay, Plan, Run}
 
--- a refused scene leaves all as it was; a plan that does not fit is that of the scene taken, and nothing is written
-abbrev pub Unprepared : List ℕ → Refusal → SceneView → SceneView → Bor (List ℕ)
-    → List CopyRecord → List CopyRecord → List Edge → List Edge → Type 0
-Unprepared bytes (Scene f) before after taken cs cs' es es' =
-    (verdict (scene_rules bytes) ≡ Err f) × (after ≡ before) × (cs' ≡ cs) × (es' ≡ es)
-Unprepared bytes (Lay f) before after taken cs cs' es es' =
-    (after.bytes ≡ taken) × Unlaid (scene_of bytes) f cs cs' es es'
-Unprepared bytes (Plan f) before after taken cs cs' es es' = ⊥
-Unprepared bytes (Run f) before after taken cs cs' es es' = ⊥
+-- the bytes are no scene; or the memory is too short for the plan of the one that they are
+abbrev pub Hindrance : List ℕ → Refusal → List CopyRecord → List Edge → Type 0
+Hindrance bytes (Scene f) copies edges = verdict (scene_rules bytes) ≡ Err f
+Hindrance bytes (Lay f) copies edges = (admits bytes ≡ true) × Short (scene_of bytes) copies edges f
+Hindrance bytes (Plan f) copies edges = ⊥
+Hindrance bytes (Run f) copies edges = ⊥
+
+-- a refusal says what is in the way, and leaves all that was handed in as it was
+pub record Unprepared (bytes : List ℕ) (f : Refusal) (view view' : SceneView) (copies copies' : List CopyRecord)
+    (edges edges' : List Edge) : Type 0 where
+  pub hindered : Hindrance bytes f copies edges
+  pub view_kept : view' ≡ view
+  pub copies_kept : copies' ≡ copies
+  pub edges_kept : edges' ≡ edges

@@ -3,8 +3,8 @@ ghost use Rattle.std.specs.Prelude.{◌≡◌, ◌≤◌, ◌++◌, length, IfOk
 ghost use Rattle.scene.specs.Views.{viewed};
 ghost use Rattle.exchange.specs.Going.{LaidPlan};
 ghost use Rattle.cabinet.specs.Pages.{boards_page, head_page, reports};
-ghost use Rattle.cabinet.specs.Pages.{refused_page};
-ghost use Rattle.cabinet.specs.Listed.{record_room, RunTold, KindTold, PageTold};
+ghost use Rattle.cabinet.specs.Pages.{Paged, refused_page};
+ghost use Rattle.cabinet.specs.Listed.{EveryRunOfEachKind, record_room, RunTold, KindTold, PageTold};
 
 use crate::outcome::{Outcome, Run};
 use crate::page::add_line;
@@ -89,20 +89,17 @@ fn list_run<E: Element, D: Medium + Drop>(
     plan: &PlanView,
     medium: D,
     values: &mut [E],
-) -> Result<Vec<u8>, AllocError>
+) -> Result<Result<Vec<u8>, AllocError>, Refusal>
     requires laid { LaidPlan (viewed scene.now) plan.now.boards plan.now.copies.now
         plan.now.edges.now }
     requires kind { (viewed scene.now).kind ≡ E.Element.algebra.kind }
     requires room { length plan.now.copies.now ≤ length values.old }
-    ensures { IfOk result (λ page. RunTold E.Element.algebra (viewed scene.now)
-        (D.Medium.lanes medium) page.items) }
+    ensures { Paged result (RunTold E.Element.algebra (viewed scene.now)
+        (D.Medium.lanes medium)) }
 {
     let mut medium = medium;
     let mut table = LinkTable::new();
-    let mut turning = match begin(scene, plan, &mut table, &medium, values) {
-        Ok(turning) => turning,
-        Err(fault) => return list_refusal(heap, Refusal::Run(fault)),
-    };
+    let mut turning = begin(scene, plan, &mut table, &medium, values)?;
     let _ = settle(&mut turning, plan, &mut table, &mut medium, values, CIRCLES);
     let numbers = PlanNumbers {
         boards: scene.boards(),
@@ -111,7 +108,7 @@ fn list_run<E: Element, D: Medium + Drop>(
         copies: plan.copies().len(),
         edges: plan.edges().len(),
     };
-    list_turned(heap, numbers, turning, plan, &table, values)
+    Ok(list_turned(heap, numbers, turning, plan, &table, values))
 }
 
 fn list_plan<'a, D: Medium + Drop>(
@@ -120,16 +117,13 @@ fn list_plan<'a, D: Medium + Drop>(
     copies: &'a [CopyRecord],
     edges: &'a [Edge],
     medium: D,
-) -> Result<Vec<u8>, AllocError>
+) -> Result<Result<Vec<u8>, AllocError>, Refusal>
     requires laid { LaidPlan (viewed scene.now) (viewed scene.now).boards copies.now edges.now }
     requires room { length copies.now ≤ record_room }
-    ensures { IfOk result (λ page. KindTold (viewed scene.now) (D.Medium.lanes medium)
-        page.items) }
+    ensures { Paged result (KindTold (viewed scene.now) (D.Medium.lanes medium)) }
 {
     let mut plan: PlanView = PlanView::new();
-    if let Err(fault) = plan.take(scene.boards(), copies, edges) {
-        return list_refusal(heap, Refusal::Plan(fault));
-    }
+    plan.take(scene.boards(), copies, edges)?;
     match scene.kind() {
         Kind::Force => list_run(
             heap,
@@ -155,9 +149,13 @@ fn list_plan<'a, D: Medium + Drop>(
     }
 }
 
-// The listing of the scene that the bytes say, run over this medium; or the one line of a refusal.
-pub fn list<D: Medium + Drop>(heap: Global, bytes: &[u8], medium: D) -> Result<Vec<u8>, AllocError>
-    ensures { IfOk result (λ page. PageTold bytes.now (D.Medium.lanes medium) page.items) }
+// Kept: two results, one in the other: a refusal is a page too, and for a page there may be no memory.
+fn list_scene<D: Medium + Drop>(
+    heap: Global,
+    bytes: &[u8],
+    medium: D,
+) -> Result<Result<Vec<u8>, AllocError>, Refusal>
+    ensures { Paged result (PageTold bytes.now (D.Medium.lanes medium)) }
 {
     let mut copies = [CopyRecord {
         board: 0,
@@ -171,14 +169,24 @@ pub fn list<D: Medium + Drop>(heap: Global, bytes: &[u8], medium: D) -> Result<V
         root: 0,
     }; MEMORY];
     let mut scene = SceneView::new();
-    match prepare(&mut scene, bytes, &mut copies, &mut edges) {
-        Ok(counts) => list_plan(
-            heap,
-            &scene,
-            &copies[..counts.copies],
-            &edges[..counts.edges],
-            medium,
-        ),
+    let counts = prepare(&mut scene, bytes, &mut copies, &mut edges)?;
+    list_plan(
+        heap,
+        &scene,
+        &copies[..counts.copies],
+        &edges[..counts.edges],
+        medium,
+    )
+}
+
+// The listing of the scene that the bytes say, run over this medium; or the one line of a refusal.
+#[tactic(auto, using(crate::proofs::Runs::each_kind_keeps_the_promise))]
+pub fn list<D: Medium + Drop>(heap: Global, bytes: &[u8], medium: D) -> Result<Vec<u8>, AllocError>
+    ensures told { IfOk result (λ page. PageTold bytes.now (D.Medium.lanes medium) page.items) }
+    ensures promise { EveryRunOfEachKind }
+{
+    match list_scene(heap, bytes, medium) {
+        Ok(page) => page,
         Err(refusal) => list_refusal(heap, refusal),
     }
 }

@@ -9,7 +9,7 @@ use plan::records::{CopyRecord, Edge};
 use refusals::refusal::Refusal;
 use scene::view::SceneView;
 
-// Takes the scene and lays its plan into the memory handed in.
+// Takes the scene and lays its plan into the memory handed in. A refusal leaves all that was handed in as it was.
 pub fn prepare<'a>(
     scene: &mut SceneView<'a>,
     bytes: &'a [u8],
@@ -20,11 +20,13 @@ pub fn prepare<'a>(
       | Ok n ↦ (scene.new.bytes ≡ bytes.entry)
           × Laid (scene_of bytes.now) n
           copies.old copies.new edges.old edges.new
-      | Err f ↦ Unprepared bytes.now f scene.old scene.new bytes.entry
+      | Err f ↦ Unprepared bytes.now f scene.old scene.new
           copies.old copies.new edges.old edges.new
     ] }
 {
-    scene.take(bytes)?;
-    let counts = lay(scene, copies, edges)?;
+    let mut taken = SceneView::new();
+    taken.take(bytes)?;
+    let counts = lay(&taken, copies, edges)?;
+    *scene = taken;
     Ok(counts)
 }

@@ -6,11 +6,11 @@ use Rattle.scene.specs.Views.{viewed}
 use Rattle.cabinet.proofs.Told.{laid_plan_accepted}
 use Rattle.cabinet.proofs.listed.list_plan.Goals as goal
 
-pub returns-in-Err : goal.returns-in-Err
-returns-in-Err g c =
+pub returns-in_err-take : goal.returns-in_err-take
+returns-in_err-take g c =
     let s = viewed c.args.scene.now in
     let records = c.args.copies.now in
     let edges = c.args.edges.now in
     absurd (both_ways (sound_plan s.boards records edges)
-    (sym (c.in-Err.ensures.accepts ∙ ap (λ b. sound_plan b records edges) c.boards.ensures))
+    (sym (c.in_err-take.ensures.accepts ∙ ap (λ b. sound_plan b records edges) c.boards.ensures))
     (laid_plan_accepted s s.boards records edges c.requires.laid))

@@ -1,6 +1,6 @@
 -- What is listed is where the circles led to.
 use Rattle.std.proofs.Common.{◌++◌, length, vec_items, ap, ◌∙◌, arith}
-use Rattle.std.proofs.lemmas.Result.{IfOk-weaker}
+use Rattle.std.proofs.lemmas.Result.{IfOk-weaker, err_from_is_err_and}
 use Rattle.scene.specs.Views.{viewed}
 use Rattle.protocol.specs.Runs.{moment}
 use Rattle.listing.specs.declared.lines.PlanNumbers.{PlanNumbers}
@@ -16,10 +16,10 @@ returns g c =
     let records = plan.copies.now in
     let edges = plan.edges.now in
     let lanes = g.D.Medium.lanes c.args.medium in
-    let m = moment c.in-Ok.turning.tally c.begin.new.table.links c.begin.new.copies lanes in
+    let m = moment c.in_ok-turning.turning.tally c.begin.new.table.links c.begin.new.copies lanes in
     let m' = moment c.settle.new.turning.tally c.settle.new.table.links c.settle.new.copies
     (g.D.Medium.lanes c.settle.new.medium) in
-    let begun = c.in-Ok.ensures in
+    let begun = c.in_ok-turning.ensures in
     let idle = begun.exact.1 in
     let n : PlanNumbers = record {
       boards = c.boards.result;
@@ -41,10 +41,9 @@ returns g c =
       waits = λ k w. absurd (waiting_is_not_idle lanes k 64 w.a_lane idle w);
     }) c.list_turned.ensures
 
-pub returns-in-Err : goal.returns-in-Err
-returns-in-Err g c =
-    IfOk-weaker c.list_refusal.result _ _ (λ page told.
-    run_refused g.E.Element.algebra (viewed c.args.scene.now) c.args.plan.now.copies.now
-    (g.D.Medium.lanes c.args.medium) c.args.values.now c.begin.new.copies
-    c.new-table.result.links c.begin.new.table.links c.in-Err.fault (vec_items page)
-    c.requires.kind c.requires.room c.in-Err.ensures.exact told) c.list_refusal.ensures
+pub returns-in_err-turning : goal.returns-in_err-turning
+returns-in_err-turning g c =
+    let failed = err_from_is_err_and c.from_residual.result c.from_residual.ensures.1 in
+    rw (failed.1, failed.2) (run_refused g.E.Element.algebra (viewed c.args.scene.now) c.args.plan.now.copies.now
+    (g.D.Medium.lanes c.args.medium) c.args.values.now c.begin.new.copies c.new-table.result.links
+    c.begin.new.table.links _ c.requires.kind c.requires.room c.in_err-turning.ensures.exact)
