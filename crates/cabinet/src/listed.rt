@@ -83,6 +83,7 @@ fn list_turned<'a, E: Element>(
 }
 
 // Runs a scene with elements of one type, and lists what its boards hold at the end.
+// Kept, here and below: a result in a result. A refusal is listed too, and for any page there may be no memory.
 fn list_run<E: Element, D: Medium + Drop>(
     heap: Global,
     scene: &SceneView,
@@ -149,7 +150,7 @@ fn list_plan<'a, D: Medium + Drop>(
     }
 }
 
-// Kept: two results, one in the other: a refusal is a page too, and for a page there may be no memory.
+// Lays out the scene that the bytes say, and runs it.
 fn list_scene<D: Medium + Drop>(
     heap: Global,
     bytes: &[u8],
