@@ -89,7 +89,7 @@ module _ {M : Type 0} (A : Algebra M) (law : Lawful A) (s : Scene) where
       turn_goes_on boards records edges plan p m m' n t e
   answer_goes_on boards records edges plan p m m' (Err f) (some, e) =
       let refused : Still A s m = refused_turn p m.copies f (rw (← plan.same_copies, ← plan.same_boards) some) in
-      λ ts book losses r. still_goes_on plan.sound m m' e ts book losses (call refused r)
+      (refused, λ ts book losses r. still_goes_on plan.sound m m' e ts book losses (call refused r))
 
   pub carried_nowhere : Sound s → (m : Moment M) → Carried A s m m []
   carried_nowhere ok m ts book losses r =

@@ -15,7 +15,7 @@ use Rattle.protocol.specs.declared.tally.Tally.{Tally}
 use Rattle.protocol.specs.declared.tally.TurnCounts.{TurnCounts}
 use Rattle.protocol.specs.declared.table.Link.{Link}
 use Rattle.protocol.specs.Books.{Book, blank, fed, HasAll, report_by, lowest_unsettled}
-use Rattle.protocol.specs.Runs.{Moment, Run, laid, moment, no_tally, no_link}
+use Rattle.protocol.specs.Runs.{Moment, Run, Still, laid, moment, no_tally, no_link}
 use Rattle.protocol.specs.Promise.{Promise}
 use Rattle.protocol.specs.declared.fault.RunFault.{RunFault}
 use Rattle.protocol.specs.declared.fault.RunFault.TheVariants.{Early}
@@ -44,12 +44,13 @@ pub record Kept {M : Type 0} (A : Algebra M) (s : Scene) (ts : List ℕ) (m : Mo
   pub run : Run A s ts m book losses
   pub promise : Promise A s ts m book losses
 
--- an accepted turn carries every run on, and the promise with it; a refused one leaves it where it is
+-- an accepted turn carries every run on, and the promise with it; a refused one is a call that leaves it where it is
 abbrev pub GoesOn : {M : Type 0} → Algebra M → Scene → ℕ → Moment M → Moment M → Result TurnCounts RunFault → Type 0
 GoesOn A s p m m' (Ok n) = (ts : List ℕ) (book : Book) (losses : ℕ) → Run A s ts m book losses
     → Kept A s (ts ++ (p ∷ [])) m' (fed (laid A s) p m.lanes book) (losses + n.lost)
-GoesOn A s p m m' (Err f) = (ts : List ℕ) (book : Book) (losses : ℕ) → Run A s ts m book losses
-    → Kept A s ts m' book losses
+GoesOn A s p m m' (Err f) =
+    Still A s m
+    × ((ts : List ℕ) (book : Book) (losses : ℕ) → Run A s ts m book losses → Kept A s ts m' book losses)
 
 -- every run that was at m is at m' after the turns of these boards, and keeps its promise
 abbrev pub Carried : {M : Type 0} → Algebra M → Scene → Moment M → Moment M → List ℕ → Type 0
