@@ -1,4 +1,3 @@
 pub mod Lines
-pub mod Placed
 pub mod Held
 pub mod Readings

@@ -1,4 +1,4 @@
-// A line grows at its end.
+// A line grows at its end, and others see what it holds.
 ghost use Rattle.std.specs.Prelude.{◌≡◌, ◌+◌, ◌≤◌, [], ◌++◌, length};
 ghost use Rattle.listing.specs.Held.{held};
 
@@ -6,6 +6,12 @@ use super::Line;
 use itoa::{Buffer, Integer};
 
 impl Line {
+    pub fn bytes(&self) -> &[u8]
+        ensures { result.now ≡ held self.now }
+    {
+        &self.bytes[..self.len]
+    }
+
     pub(crate) fn new() -> Line
         ensures holds { held result ≡ [] }
         ensures size { result.len ≡ 0 }
