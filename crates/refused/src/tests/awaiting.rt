@@ -1,6 +1,7 @@
 // A run over a medium that keeps nothing: every board goes on waiting.
 use super::deaf::Deaf;
-use super::given::{NO_DEPTHS, plan, started};
+use super::given::{NO_DEPTHS, SCENE, plan, started};
+use cabinet::listed::list;
 use cabinet::settle::settle;
 use element::depth::Depth;
 use exchange::fault::RunFault;
@@ -71,6 +72,26 @@ fn deaf_lanes_leave_boards_awaiting(rt: HostRuntime) -> Result<(), Fail> {
             .zip(own)
             .all(|(depth, value)| depth.value == value)
     );
+    Ok(())
+}
+
+// Nothing arrives in any of the 100,000 circles allowed: the page tells whom each board awaits, and own sums.
+const AWAITING_PAGE: &[u8; 173] = b"boards 2 overlap 0 kind 2 copies 6 edges 2
+turns 200000 puts 100000 lost 100000 accepted 0
+0 awaits 1
+0 0 5 0 0
+0 1 7 0 0
+0 2 1 0 0
+1 awaits 0
+1 1 4 0 0
+1 2 6 0 0
+1 3 9 0 0
+";
+
+#[test]
+fn a_run_that_goes_on_is_listed(rt: HostRuntime) -> Result<(), Fail> {
+    let page = list(rt.alloc(), SCENE, Deaf)?;
+    assert!(rt; page.as_slice() == AWAITING_PAGE.as_slice());
     Ok(())
 }
 
