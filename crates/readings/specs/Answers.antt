@@ -11,7 +11,13 @@ use Rattle.scene.specs.Layout.{scene_of}
 use Rattle.scene.specs.Rules.{verdict, scene_rules}
 use Rattle.scene.specs.Sums.{undivided}
 use Rattle.forest.specs.Forest.{laid_copies, laid_edges}
-use Rattle.readings.specs.Listed.{listing}
+use Rattle.protocol.specs.Runs.{laid, accepted_in}
+use Rattle.protocol.specs.Books.{report_by}
+use Rattle.protocol.specs.declared.tally.Report.{Report}
+use Rattle.cabinet.specs.Listed.{circle_limit}
+use Rattle.cabinet.specs.Pages.{head_page, numbers_of}
+use Rattle.readings.specs.Media.{Medium}
+use Rattle.readings.specs.Runs.{led_to, listed_over}
 
 pub data Answer : Type 0 where
   -- a scene, whose plan has so many copies and edges
@@ -22,6 +28,8 @@ pub data Answer : Type 0 where
   totals : List ℕ → Answer
   -- the bytes of a listing
   lists : List ℕ → Answer
+  -- what is reported of the boards
+  reports : List Report → Answer
   -- one axis of a force: its word, and the number that this is with a sign
   axis : ℕ → ℤ → Answer
 
@@ -40,9 +48,20 @@ check b = verdict_on (verdict (scene_rules b)) (scene_of b)
 abbrev pub depths : Scene → Answer
 depths s = totals (map (λ v. (undivided depth_algebra s v).value) (range_with_len 0 s.vertices))
 
--- the listing of a scene of depths after these boards have turned
-abbrev pub list_after : List ℕ → Scene → Answer
-list_after ps s = lists (listing depth_algebra s ps)
+-- the listing of a scene of depths, run over this medium
+abbrev pub list_over : Medium → Scene → Answer
+list_over medium s = lists (listed_over depth_algebra s medium)
+
+-- the first two lines of that listing, the plan's and the tally's
+abbrev pub head_over : Medium → Scene → Answer
+head_over medium s = lists (head_page (numbers_of s (laid_copies s) (laid_edges s))
+    (led_to depth_algebra s medium circle_limit).tally)
+
+-- what is reported of its boards after so many circles, or once all are settled
+abbrev pub reports_within : ℕ → Medium → Scene → Answer
+reports_within limit medium s =
+    let m = led_to depth_algebra s medium limit in
+    reports (map (report_by (laid depth_algebra s) (accepted_in m.links)) (range_with_len 0 s.boards))
 
 abbrev pub signed : ℕ → Answer
 signed word = axis word (to_z w32 word)

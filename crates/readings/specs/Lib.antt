@@ -1,5 +1,5 @@
 pub mod Bytes
+pub mod Media
 pub mod Runs
-pub mod Listed
 pub mod Answers
 pub mod Readings

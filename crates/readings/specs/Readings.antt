@@ -1,10 +1,14 @@
 -- The rules worked out on examples, as one table: what the rules say, and how that reads.
-use Rattle.std.specs.Prelude.{◌≡◌, ℕ, List, [], ◌∷◌, ◌++◌, map, take, negsuc}
+use Rattle.std.specs.Prelude.{◌≡◌, ℕ, List, [], ◌∷◌, ◌++◌, map, take, negsuc, codes}
+use Prim.Native.String.{String}
+use Rattle.std.specs.List.{flat_map}
 use Rattle.scene.specs.Layout.{scene_of}
-use Rattle.readings.specs.Listed.{page}
+use Rattle.listing.specs.Lines.{line_end}
+use Rattle.protocol.specs.declared.tally.Report.TheVariants.{Settled, Awaits}
+use Rattle.readings.specs.Media.{plain, rough}
 use Rattle.readings.specs.Bytes.{triangles, with_first, empty_scene, cell, part, depth}
-use Rattle.readings.specs.Answers.{Answer, accepted, refused, totals, lists, axis}
-use Rattle.readings.specs.Answers.{check, depths, list_after, join_axes}
+use Rattle.readings.specs.Answers.{Answer, accepted, refused, totals, lists, reports, axis}
+use Rattle.readings.specs.Answers.{check, depths, list_over, head_over, reports_within, join_axes}
 
 -- the first triangle with two equal corners, and with a second word where a depth has one
 abbrev pub equal_corners : List ℕ
@@ -13,15 +17,15 @@ equal_corners = with_first (cell 0 (1 ∷ 1 ∷ 2 ∷ []) (depth 5 ∷ depth 7 �
 abbrev pub second_word : List ℕ
 second_word = with_first (cell 0 (0 ∷ 1 ∷ 2 ∷ []) (part 5 1 ∷ depth 7 ∷ depth 1 ∷ []))
 
--- four ascending circles of two boards
-abbrev pub four_circles : List ℕ
-four_circles = 0 ∷ 1 ∷ 0 ∷ 1 ∷ 0 ∷ 1 ∷ 0 ∷ 1 ∷ []
+-- lines of text, as bytes
+abbrev pub page : List String → List ℕ
+page = flat_map (λ l. codes l ++ line_end)
 
--- both boards are settled and hold the totals
-abbrev pub two_triangles_listed : List ℕ
-two_triangles_listed =
+-- both boards are settled and hold the totals, whatever the tally
+abbrev pub two_triangles_listed : String → List ℕ
+two_triangles_listed tally =
     page ("boards 2 overlap 0 kind 2 copies 6 edges 2"
-    ∷ "turns 8 puts 7 lost 0 accepted 4"
+    ∷ tally
     ∷ "0 settled"
     ∷ "0 0 5 0 0"
     ∷ "0 1 7 0 0"
@@ -37,7 +41,18 @@ abbrev pub table : List (Answer × Answer)
 table =
     (check (triangles 2 0 4), accepted 6 2)
     ∷ (depths (scene_of (triangles 2 0 4)), totals (5 ∷ 7 ∷ 6 ∷ 9 ∷ []))
-    ∷ (list_after four_circles (scene_of (triangles 2 0 4)), lists two_triangles_listed)
+    ∷ (list_over plain (scene_of (triangles 2 0 4)), lists (two_triangles_listed "turns 8 puts 7 lost 0 accepted 4"))
+    ∷ (list_over rough (scene_of (triangles 2 0 4)), lists (two_triangles_listed "turns 12 puts 10 lost 2 accepted 4"))
+    ∷ (reports_within 3 plain (scene_of (triangles 2 0 4)), reports (Settled ∷ Awaits 0 1 ∷ []))
+    ∷ (reports_within 4 plain (scene_of (triangles 2 0 4)), reports (Settled ∷ Settled ∷ []))
+    ∷ (reports_within 5 rough (scene_of (triangles 2 0 4)), reports (Settled ∷ Awaits 0 1 ∷ []))
+    ∷ (reports_within 6 rough (scene_of (triangles 2 0 4)), reports (Settled ∷ Settled ∷ []))
+    ∷ (head_over plain (scene_of (triangles 2 1 4)), lists (page ("boards 2 overlap 1 kind 2 copies 8 edges 4" ∷ "turns 12 puts 12 lost 0 accepted 8" ∷ [])))
+    ∷ (head_over rough (scene_of (triangles 2 1 4)), lists (page ("boards 2 overlap 1 kind 2 copies 8 edges 4" ∷ "turns 16 puts 14 lost 3 accepted 8" ∷ [])))
+    ∷ (head_over plain (scene_of (triangles 3 0 4)), lists (page ("boards 3 overlap 0 kind 2 copies 6 edges 2" ∷ "turns 12 puts 7 lost 0 accepted 4" ∷ [])))
+    ∷ (head_over rough (scene_of (triangles 3 0 4)), lists (page ("boards 3 overlap 0 kind 2 copies 6 edges 2" ∷ "turns 18 puts 10 lost 2 accepted 4" ∷ [])))
+    ∷ (head_over plain (scene_of (triangles 2 0 5)), lists (page ("boards 2 overlap 0 kind 2 copies 6 edges 2" ∷ "turns 8 puts 7 lost 0 accepted 4" ∷ [])))
+    ∷ (head_over rough (scene_of (triangles 2 0 5)), lists (page ("boards 2 overlap 0 kind 2 copies 6 edges 2" ∷ "turns 12 puts 10 lost 2 accepted 4" ∷ [])))
     ∷ (check (triangles 2 1 4), accepted 8 4)
     ∷ (check (triangles 3 0 4), accepted 6 2)
     ∷ (check (triangles 2 0 5), accepted 6 2)

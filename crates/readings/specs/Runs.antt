@@ -1,71 +1,90 @@
--- A run over a queue: what the rules of a turn and of a queue's puts make of it, board after board.
-use Rattle.std.specs.Prelude.{ℕ, ◌<◌, Bool, cond, not, ◌&&◌, List, [], ◌∷◌, ◌++◌, replicate, ◌==◌, nat_lt}
-use Rattle.std.specs.Prelude.{slice_index_or}
+-- A run over a medium: what the steps of a turn, and as many frames as the medium appends, make of a moment.
+use Rattle.std.specs.Prelude.{◌≡◌, ℕ, zero, suc, ◌+◌, ◌≤◌, true, false, cond, not, ◌&&◌, List, replicate, ◌==◌}
 use Rattle.element.specs.Algebra.{Algebra}
-use Rattle.element.specs.Models.{depth_algebra}
-use Rattle.element.specs.declared.depth.Depth.{Depth}
-use Rattle.medium.specs.Held.{queue_count}
-use Rattle.scene.specs.Cells.{Scene}
-use Rattle.scene.specs.Sums.{own_sum}
-use Rattle.plan.specs.Links.{Shape, items, no_copy}
-use Rattle.forest.specs.Forest.{laid_copies}
-use Rattle.protocol.specs.declared.tally.Tally.{Tally}
-use Rattle.protocol.specs.Frames.{brings, tells_of, scan}
-use Rattle.protocol.specs.Turns.{State, Turned, takes_all, puts, frame}
-use Rattle.protocol.specs.Runs.{counts, tallied, no_tally, laid}
+use Rattle.medium.specs.Lanes.{Lanes, appended, empty_lanes}
+use Rattle.scene.specs.Cells.{Scene, Sound}
+use Rattle.plan.specs.Links.{shape}
+use Rattle.plan.specs.declared.records.Edge.{Edge}
+use Rattle.forest.specs.Forest.{laid_copies, laid_edges}
+use Rattle.protocol.specs.Books.{Book}
+use Rattle.protocol.specs.Runs.{Moment, Fresh, Run, moment, seen, counts, tallied, no_link, no_tally}
+use Rattle.protocol.specs.Steps.{Received, received, lanes_step, due, due_frame}
+use Rattle.sums.specs.Sums.{loaded_copies}
+use Rattle.circles.specs.Circles.{circles, UnsettledCircles, unsettled}
+use Rattle.cabinet.specs.Listed.{Listed, circle_limit}
+use Rattle.cabinet.specs.Pages.{listing}
+use Rattle.readings.specs.Media.{Medium}
 
--- q is a board other than p
-abbrev pub another : Shape → ℕ → ℕ → Bool
-another P p q = nat_lt q P.boards && not (q == p)
+module _ {M : Type 0} (A : Algebra M) (boards : ℕ) (edges : List Edge) where
+  -- board p takes all that waits for it
+  abbrev pub taking : ℕ → Moment M → Received M
+  taking p m = lanes_step A edges p boards (received m.links m.copies 0 m.lanes 0 (replicate 8 false))
 
-module _ {M : Type 0} (A : Algebra M) (P : Shape) where
-  -- p has taken all that waits for it
-  abbrev pub taken : ℕ → State M → State M
-  taken p s = record {
-    i = λ a b. cond (a == p && another P p b) (scan (tells_of (items P p b)) (s.i p b) (s.lane b p)) (s.i a b);
-    j = λ a b. cond (b == p && another P p a) (scan (brings (items P a p)) (s.j a p) (s.lane a p)) (s.j a b);
-    lane = λ a b. cond (b == p && another P p a) [] (s.lane a b);
-    val = takes_all A P p P.boards s.j s.lane s.val;
-  }
+  -- a turn of p that leads from m to u is counted
+  abbrev pub counted : ℕ → Moment M → Moment M → Moment M
+  counted p m u =
+      moment (tallied (counts A (shape boards edges) (seen A m) (seen A u) p) m.tally) u.links u.copies u.lanes
 
-  -- and has put what is due: to each other board as many frames as a queue appends
-  abbrev pub turned : ℕ → State M → State M
-  turned p s =
-      let u = taken p s in
-      record {
-        i = u.i;
-        j = u.j;
-        lane = λ a b. cond (a == p && another P p b)
-            (u.lane a b ++ replicate (cond (puts A P s u p b) (queue_count u.lane a b) 0) (frame A P s u p b))
-            (u.lane a b);
-        val = u.val;
-      }
+module _ {M : Type 0} (A : Algebra M) (medium : Medium) (boards : ℕ) (edges : List Edge) where
+  -- p, which has taken, puts to q what is due: how many puts were made so far, and the lanes
+  abbrev pub put_to : ℕ → Received M → ℕ → ℕ × Lanes → ℕ × Lanes
+  put_to p r q x =
+      let f = due_frame A boards edges p r.held.links r.held.copies q in
+      cond (not (q == p) && due A boards edges p r.held.links r.got q)
+      (x.0 + 1, appended x.1 p q f (medium x.0 x.1 p q f))
+      x
 
-  -- the tally and the state after these boards have turned
-  abbrev pub after : List ℕ → Tally × State M → Tally × State M
-  after [] m = m
-  after (p ∷ ps) m =
-      let u = turned p m.1 in after ps (tallied (counts A P m.1 u p) m.0, u)
+  -- and to every other board below k, ascending
+  abbrev pub puts_below : ℕ → Received M → ℕ → ℕ × Lanes → ℕ × Lanes
+  puts_below p r zero x = x
+  puts_below p r (suc k) x = put_to p r k (puts_below p r k x)
+
+  abbrev pub turned : ℕ → Moment M → Moment M
+  turned p m =
+      let r = taking A boards edges p m in
+      counted A boards edges p m
+      (moment m.tally r.held.links r.held.copies (puts_below p r boards (m.tally.puts, r.lanes)).1)
+
+  -- the boards below k turn, ascending
+  abbrev pub turned_below : ℕ → Moment M → Moment M
+  turned_below zero m = m
+  turned_below (suc k) m = turned k (turned_below k m)
+
+  -- circles while some board is not settled, as many as allowed
+  abbrev pub circled : ℕ → Moment M → Moment M
+  circled zero m = m
+  circled (suc k) m = cond (unsettled boards edges m) (circled k (turned_below boards m)) m
 
 module _ {M : Type 0} (A : Algebra M) (s : Scene) where
-  -- each copy at its board's own sum
-  abbrev pub fresh : Tally × State M
-  fresh = (
-    no_tally,
-    record {
-      i = λ a b. 0;
-      j = λ a b. 0;
-      lane = λ a b. [];
-      val = λ c. own_sum A s (slice_index_or (laid_copies s) c no_copy).board
-          (slice_index_or (laid_copies s) c no_copy).vertex;
-    },
-  )
+  -- just after start, each copy at its board's own sum
+  abbrev pub started : Moment M
+  started = moment no_tally (replicate 64 no_link) (loaded_copies A s (laid_copies s)) empty_lanes
 
-  abbrev pub run : List ℕ → Tally × State M
-  run ps = after A (laid A s) ps fresh
+  -- where circles lead to
+  abbrev pub led_to : Medium → ℕ → Moment M
+  led_to medium limit = circled A medium s.boards (laid_edges s) limit started
 
--- each such step of boards with depths is a turn by the rules
-abbrev pub TurnsByTheRules : Type 0
-TurnsByTheRules =
-    (P : Shape) (s : State Depth) (p : ℕ) → p < P.boards
-    → Turned depth_algebra P s (turned depth_algebra P p s) p
+  -- the listing of a run over this medium, as the programs list it
+  abbrev pub listed_over : Medium → List ℕ
+  listed_over medium = listing A s (laid_copies s) (laid_edges s) (led_to medium circle_limit)
+
+  -- whole circles lead from a fresh start to the moment, some board not being settled before each; and after them
+  -- some is not only if no more circles were allowed
+  pub record Reached (limit : ℕ) (begin at : Moment M) : Type 0 where
+    pub begun : Fresh A s begin
+    pub rounds : ℕ
+    pub few : rounds ≤ limit
+    pub ended : unsettled s.boards (laid_edges s) at ≡ true → rounds ≡ limit
+    pub circled : UnsettledCircles A s.boards (laid_copies s) (laid_edges s) begin rounds at
+    pub book : Book
+    pub losses : ℕ
+    pub run : Run A s (circles s.boards rounds) at book losses
+
+-- over any medium, and whatever number of circles is allowed, the computed moment is one of a run by the rules
+abbrev pub RunsByTheRules : {M : Type 0} → Algebra M → Type 0
+RunsByTheRules A = (medium : Medium) (s : Scene) → Sound s → (limit : ℕ)
+    → Reached A s limit (started A s) (led_to A s medium limit)
+
+-- and the computed listing keeps the promise of the call `list`
+abbrev pub ListsAsPromised : {M : Type 0} → Algebra M → Type 0
+ListsAsPromised A = (medium : Medium) (s : Scene) → Sound s → Listed A s (listed_over A s medium)

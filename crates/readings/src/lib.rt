@@ -1,4 +1,5 @@
-// The rules of scenes, plans and elements, worked out on examples.
+// The rules of scenes, plans, elements and runs, worked out on examples.
 #![tactic(auto)]
 
 pub mod readings;
+pub mod runs;

@@ -1,13 +1,11 @@
 // The worked examples stand.
 ghost use Rattle.std.specs.Prelude.{◌≡◌};
 ghost use Rattle.readings.specs.Readings.{Readings};
-ghost use Rattle.readings.specs.Runs.{TurnsByTheRules};
 
 // What the rules say of each example.
 pub fn readings_stand() -> u8
     ensures answer { result ≡ 0 }
     ensures readings { Readings }
-    ensures turns { TurnsByTheRules }
 {
     0
 }
