@@ -3,6 +3,7 @@ use Rattle.std.specs.Prelude.{ℕ, List, map, length, ℤ, Ok, Err, Result}
 use Rattle.std.specs.Int.{w32}
 use Rattle.std.proofs.Common.{to_z}
 use Rattle.std.specs.List.{range_with_len}
+use Rattle.element.specs.Algebra.{Algebra}
 use Rattle.element.specs.Models.{force, force_algebra, depth_algebra}
 use Rattle.scene.specs.declared.fault.SceneFault.{SceneFault}
 use Rattle.scene.specs.Cells.{Scene}
@@ -15,7 +16,7 @@ use Rattle.protocol.specs.Runs.{laid, accepted_in}
 use Rattle.protocol.specs.Books.{report_by}
 use Rattle.protocol.specs.declared.tally.Report.{Report}
 use Rattle.cabinet.specs.Listed.{circle_limit}
-use Rattle.cabinet.specs.Pages.{head_page, numbers_of}
+use Rattle.listing.specs.Lines.{tally_line}
 use Rattle.readings.specs.Media.{Medium}
 use Rattle.readings.specs.Runs.{led_to, listed_over}
 
@@ -48,14 +49,13 @@ check b = verdict_on (verdict (scene_rules b)) (scene_of b)
 abbrev pub depths : Scene → Answer
 depths s = totals (map (λ v. (undivided depth_algebra s v).value) (range_with_len 0 s.vertices))
 
--- the listing of a scene of depths, run over this medium
-abbrev pub list_over : Medium → Scene → Answer
-list_over medium s = lists (listed_over depth_algebra s medium)
+-- the listing of a scene with elements of one type, run over this medium
+abbrev pub list_over : {M : Type 0} → Algebra M → Medium → Scene → Answer
+list_over A medium s = lists (listed_over A s medium)
 
--- the first two lines of that listing, the plan's and the tally's
-abbrev pub head_over : Medium → Scene → Answer
-head_over medium s = lists (head_page (numbers_of s (laid_copies s) (laid_edges s))
-    (led_to depth_algebra s medium circle_limit).tally)
+-- the tally's line in the listing of a scene of depths
+abbrev pub tally_over : Medium → Scene → Answer
+tally_over medium s = lists (tally_line (led_to depth_algebra s medium circle_limit).tally)
 
 -- what is reported of its boards after so many circles, or once all are settled
 abbrev pub reports_within : ℕ → Medium → Scene → Answer

@@ -2,13 +2,28 @@
 use Rattle.std.specs.Prelude.{◌≡◌, ℕ, List, [], ◌∷◌, ◌++◌, map, take, negsuc, codes}
 use Prim.Native.String.{String}
 use Rattle.std.specs.List.{flat_map}
+use Rattle.element.specs.Models.{force_algebra, depth_algebra}
+use Rattle.scene.specs.Cells.{Scene}
 use Rattle.scene.specs.Layout.{scene_of}
 use Rattle.listing.specs.Lines.{line_end}
 use Rattle.protocol.specs.declared.tally.Report.TheVariants.{Settled, Awaits}
 use Rattle.readings.specs.Media.{plain, rough}
 use Rattle.readings.specs.Bytes.{triangles, with_first, empty_scene, cell, part, depth}
 use Rattle.readings.specs.Answers.{Answer, accepted, refused, totals, lists, reports, axis}
-use Rattle.readings.specs.Answers.{check, depths, list_over, head_over, reports_within, join_axes}
+use Rattle.readings.specs.Answers.{check, depths, list_over, tally_over, reports_within, join_axes}
+
+-- the two triangles; with a layer of overlap; with a third board, which owns nothing; with a vertex on no cell
+abbrev pub two_triangles : Scene
+two_triangles = scene_of (triangles 2 0 4)
+
+abbrev pub overlapping : Scene
+overlapping = scene_of (triangles 2 1 4)
+
+abbrev pub third_board : Scene
+third_board = scene_of (triangles 3 0 4)
+
+abbrev pub fifth_vertex : Scene
+fifth_vertex = scene_of (triangles 2 0 5)
 
 -- the first triangle with two equal corners, and with a second word where a depth has one
 abbrev pub equal_corners : List ℕ
@@ -17,14 +32,14 @@ equal_corners = with_first (cell 0 (1 ∷ 1 ∷ 2 ∷ []) (depth 5 ∷ depth 7 �
 abbrev pub second_word : List ℕ
 second_word = with_first (cell 0 (0 ∷ 1 ∷ 2 ∷ []) (part 5 1 ∷ depth 7 ∷ depth 1 ∷ []))
 
--- lines of text, as bytes
-abbrev pub page : List String → List ℕ
-page = flat_map (λ l. codes l ++ line_end)
+-- the lines of a listing
+abbrev pub lines : List String → Answer
+lines ls = lists (flat_map (λ l. codes l ++ line_end) ls)
 
--- both boards are settled and hold the totals, whatever the tally
-abbrev pub two_triangles_listed : String → List ℕ
-two_triangles_listed tally =
-    page ("boards 2 overlap 0 kind 2 copies 6 edges 2"
+-- the two triangles, run until both boards are settled and hold the totals, by the tally's line
+abbrev pub settled_triangles : String → Answer
+settled_triangles tally =
+    lines ("boards 2 overlap 0 kind 2 copies 6 edges 2"
     ∷ tally
     ∷ "0 settled"
     ∷ "0 0 5 0 0"
@@ -36,23 +51,34 @@ two_triangles_listed tally =
     ∷ "1 3 9 0 0"
     ∷ [])
 
+abbrev pub smallest_listed : Answer
+smallest_listed =
+    lines ("boards 1 overlap 0 kind 1 copies 0 edges 0" ∷ "turns 0 puts 0 lost 0 accepted 0" ∷ "0 settled" ∷ [])
+
+-- the runs: `reports_within k` is what is reported after k circles, if so many are made
+abbrev pub runs : List (Answer × Answer)
+runs =
+    (list_over depth_algebra plain two_triangles, settled_triangles "turns 8 puts 7 lost 0 accepted 4")
+    ∷ (reports_within 3 plain two_triangles, reports (Settled ∷ Awaits 0 1 ∷ []))
+    ∷ (reports_within 4 plain two_triangles, reports (Settled ∷ Settled ∷ []))
+    ∷ (list_over depth_algebra rough two_triangles, settled_triangles "turns 12 puts 10 lost 2 accepted 4")
+    ∷ (reports_within 5 rough two_triangles, reports (Settled ∷ Awaits 0 1 ∷ []))
+    ∷ (reports_within 6 rough two_triangles, reports (Settled ∷ Settled ∷ []))
+    ∷ (tally_over plain overlapping, lines ("turns 12 puts 12 lost 0 accepted 8" ∷ []))
+    ∷ (tally_over rough overlapping, lines ("turns 16 puts 14 lost 3 accepted 8" ∷ []))
+    ∷ (tally_over plain third_board, lines ("turns 12 puts 7 lost 0 accepted 4" ∷ []))
+    ∷ (tally_over rough third_board, lines ("turns 18 puts 10 lost 2 accepted 4" ∷ []))
+    ∷ (tally_over plain fifth_vertex, lines ("turns 8 puts 7 lost 0 accepted 4" ∷ []))
+    ∷ (tally_over rough fifth_vertex, lines ("turns 12 puts 10 lost 2 accepted 4" ∷ []))
+    ∷ (list_over force_algebra plain (scene_of empty_scene), smallest_listed)
+    ∷ (list_over force_algebra rough (scene_of empty_scene), smallest_listed)
+    ∷ []
+
 -- triangles are given by boards, overlap and vertices, and `negsuc n` is -1 - n
 abbrev pub table : List (Answer × Answer)
 table =
     (check (triangles 2 0 4), accepted 6 2)
-    ∷ (depths (scene_of (triangles 2 0 4)), totals (5 ∷ 7 ∷ 6 ∷ 9 ∷ []))
-    ∷ (list_over plain (scene_of (triangles 2 0 4)), lists (two_triangles_listed "turns 8 puts 7 lost 0 accepted 4"))
-    ∷ (list_over rough (scene_of (triangles 2 0 4)), lists (two_triangles_listed "turns 12 puts 10 lost 2 accepted 4"))
-    ∷ (reports_within 3 plain (scene_of (triangles 2 0 4)), reports (Settled ∷ Awaits 0 1 ∷ []))
-    ∷ (reports_within 4 plain (scene_of (triangles 2 0 4)), reports (Settled ∷ Settled ∷ []))
-    ∷ (reports_within 5 rough (scene_of (triangles 2 0 4)), reports (Settled ∷ Awaits 0 1 ∷ []))
-    ∷ (reports_within 6 rough (scene_of (triangles 2 0 4)), reports (Settled ∷ Settled ∷ []))
-    ∷ (head_over plain (scene_of (triangles 2 1 4)), lists (page ("boards 2 overlap 1 kind 2 copies 8 edges 4" ∷ "turns 12 puts 12 lost 0 accepted 8" ∷ [])))
-    ∷ (head_over rough (scene_of (triangles 2 1 4)), lists (page ("boards 2 overlap 1 kind 2 copies 8 edges 4" ∷ "turns 16 puts 14 lost 3 accepted 8" ∷ [])))
-    ∷ (head_over plain (scene_of (triangles 3 0 4)), lists (page ("boards 3 overlap 0 kind 2 copies 6 edges 2" ∷ "turns 12 puts 7 lost 0 accepted 4" ∷ [])))
-    ∷ (head_over rough (scene_of (triangles 3 0 4)), lists (page ("boards 3 overlap 0 kind 2 copies 6 edges 2" ∷ "turns 18 puts 10 lost 2 accepted 4" ∷ [])))
-    ∷ (head_over plain (scene_of (triangles 2 0 5)), lists (page ("boards 2 overlap 0 kind 2 copies 6 edges 2" ∷ "turns 8 puts 7 lost 0 accepted 4" ∷ [])))
-    ∷ (head_over rough (scene_of (triangles 2 0 5)), lists (page ("boards 2 overlap 0 kind 2 copies 6 edges 2" ∷ "turns 12 puts 10 lost 2 accepted 4" ∷ [])))
+    ∷ (depths two_triangles, totals (5 ∷ 7 ∷ 6 ∷ 9 ∷ []))
     ∷ (check (triangles 2 1 4), accepted 8 4)
     ∷ (check (triangles 3 0 4), accepted 6 2)
     ∷ (check (triangles 2 0 5), accepted 6 2)
@@ -68,4 +94,4 @@ table =
 
 -- both columns are the same
 abbrev pub Readings : Type 0
-Readings = map (λ r. r.0) table ≡ map (λ r. r.1) table
+Readings = map (λ r. r.0) (table ++ runs) ≡ map (λ r. r.1) (table ++ runs)
