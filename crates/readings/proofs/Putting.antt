@@ -26,7 +26,8 @@ module _ (n : ℕ) (s : Queue) (from to : ℕ) (f : Frame) (k : ℕ) (t : Queue)
         let (none, same) = r.full l in
         let no_room = le-ltb (length (queue_lanes s from to)) 8 l in (
           none ∙ sym (ap (λ b. cond b 1 0) (and_right (is_lane from to) _ no_room)),
-          ap queue_lanes same ∙ sym (ap (appended (queue_lanes s) from to f) none ∙ none_appended (queue_lanes s) from to f),
+          ap queue_lanes same
+              ∙ sym (ap (appended (queue_lanes s) from to f) none ∙ none_appended (queue_lanes s) from to f),
         )
   ]
 

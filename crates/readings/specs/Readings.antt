@@ -74,7 +74,7 @@ runs =
     ∷ (list_over force_algebra rough (scene_of empty_scene), smallest_listed)
     ∷ []
 
--- triangles are given by boards, overlap and vertices, and `negsuc n` is -1 - n
+-- the scenes: triangles are given by boards, overlap and vertices, and `negsuc n` is -1 - n
 abbrev pub table : List (Answer × Answer)
 table =
     (check (triangles 2 0 4), accepted 6 2)
