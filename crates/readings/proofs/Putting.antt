@@ -31,9 +31,9 @@ module _ (n : ℕ) (s : Queue) (from to : ℕ) (f : Frame) (k : ℕ) (t : Queue)
         )
   ]
 
--- a code is 0, 1 or 2
-codes : (n : ℕ) → entry (n % length table) ≤ 2
-codes n = All-get_or (λ x. x ≤ 2) table (n % length table) 0 (omega arith) (search arith)
+-- no other code is in the table
+code_at_most_2 : (n : ℕ) → entry (n % length table) ≤ 2
+code_at_most_2 n = All-get_or (λ x. x ≤ 2) table (n % length table) 0 (omega arith) (search arith)
 
 by_code : (n : ℕ) (s : Queue) (from to : ℕ) (f : Frame) (k : ℕ) (t : Queue)
     → Scripted ration (entry (n % length table)) s from to f k t → k ≡ rough n (queue_lanes s) from to f
@@ -44,7 +44,7 @@ by_code n s from to f k t r =
       | inr d ↦ elim (cases_eq code 1) [
         | inl e ↦ rw (ne_eqb code 0 d, eq-eqb code 1 e) (r.dropped e).0
         | inr c ↦
-            let v = r.doubled (omega (arith, codes n)) in
+            let v = r.doubled (omega (arith, code_at_most_2 n)) in
             let (one, after) = rationed n s from to f v.one v.between v.earlier in
             let (two, _) = rationed n v.between from to f v.two t v.later in
             rw (ne_eqb code 0 d, ne_eqb code 1 c)

@@ -3,7 +3,7 @@ use Rattle.std.specs.Prelude.{◌≡◌, ℕ, List, [], ◌∷◌, ◌++◌, map
 use Prim.Native.String.{String}
 use Rattle.std.specs.List.{flat_map}
 use Rattle.element.specs.Models.{force_algebra, depth_algebra}
-use Rattle.scene.specs.Cells.{Scene}
+use Rattle.scene.specs.Cells.{Scene, Sound}
 use Rattle.scene.specs.Layout.{scene_of}
 use Rattle.listing.specs.Lines.{line_end}
 use Rattle.protocol.specs.declared.tally.Report.TheVariants.{Settled, Awaits}
@@ -24,6 +24,15 @@ third_board = scene_of (triangles 3 0 4)
 
 abbrev pub fifth_vertex : Scene
 fifth_vertex = scene_of (triangles 2 0 5)
+
+-- one board, no vertices, no cells
+abbrev pub smallest : Scene
+smallest = scene_of empty_scene
+
+-- they keep the ranges of an accepted scene, which the runs' promises ask for
+abbrev pub WorkedScenesAreSound : Type 0
+WorkedScenesAreSound =
+    Sound two_triangles × Sound overlapping × Sound third_board × Sound fifth_vertex × Sound smallest
 
 -- the first triangle with two equal corners, and with a second word where a depth has one
 abbrev pub equal_corners : List ℕ
@@ -70,8 +79,8 @@ runs =
     ∷ (tally_over rough third_board, lines ("turns 18 puts 10 lost 2 accepted 4" ∷ []))
     ∷ (tally_over plain fifth_vertex, lines ("turns 8 puts 7 lost 0 accepted 4" ∷ []))
     ∷ (tally_over rough fifth_vertex, lines ("turns 12 puts 10 lost 2 accepted 4" ∷ []))
-    ∷ (list_over force_algebra plain (scene_of empty_scene), smallest_listed)
-    ∷ (list_over force_algebra rough (scene_of empty_scene), smallest_listed)
+    ∷ (list_over force_algebra plain smallest, smallest_listed)
+    ∷ (list_over force_algebra rough smallest, smallest_listed)
     ∷ []
 
 -- the scenes: triangles are given by boards, overlap and vertices, and `negsuc n` is -1 - n
