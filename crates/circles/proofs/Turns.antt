@@ -47,7 +47,7 @@ module _ {M : Type 0} (A : Algebra M) (law : Lawful A) (boards : ℕ) (records :
         = sym (counting_next p) ∙ ap (range_with_len 0) (sym (add-one p)) in
         record {
           made = subst (λ (k : ℕ). Ascending A boards records edges m k m₂) (sym (add-one p))
-              (next_turn p m₁ m₂ n so_far.made answer);
+              (next_turn p m₁ m₂ so_far.made answer.1);
           turns = omega (arith, one, so_far.turns);
           carried = λ s laid.
               subst (λ (us : List ℕ). Carried A s m m₂ us) next

@@ -9,10 +9,8 @@ use Rattle.plan.specs.declared.records.Edge.{Edge}
 use Rattle.scene.specs.Cells.{Scene}
 use Rattle.protocol.specs.Books.{lowest_unsettled}
 use Rattle.protocol.specs.Faults.{turn_limit}
-use Rattle.protocol.specs.Runs.{Moment, turn_fault, accepted_in}
+use Rattle.protocol.specs.Runs.{Moment, Turn, turn_fault, accepted_in}
 use Rattle.protocol.specs.declared.fault.RunFault.{RunFault}
-use Rattle.protocol.specs.declared.tally.TurnCounts.{TurnCounts}
-use Rattle.exchange.specs.Calls.{TurnAnswers}
 use Rattle.exchange.specs.Going.{LaidPlan, Carried}
 
 -- the boards that turn in k ascending circles
@@ -53,8 +51,8 @@ module _ {M : Type 0} (A : Algebra M) (boards : ℕ) (records : List CopyRecord)
   -- accepted turns of the boards below k, ascending, each made where the one before it led
   pub data Ascending (m : Moment M) : ℕ → Moment M → Type 0 where
     no_turn : Ascending m 0 m
-    next_turn : (p : ℕ) (m₁ m₂ : Moment M) (n : TurnCounts) → Ascending m p m₁
-        → TurnAnswers A boards records edges p m₁ m₂ (Ok n) → Ascending m (suc p) m₂
+    next_turn : (p : ℕ) (m₁ m₂ : Moment M) → Ascending m p m₁ → Turn A (shape boards edges) p m₁ m₂
+        → Ascending m (suc p) m₂
 
   -- these turns lead from m to m', and carry every run of the laid plan on
   pub record TurnedBelow (k : ℕ) (m m' : Moment M) : Type 0 where

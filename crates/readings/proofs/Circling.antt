@@ -14,7 +14,7 @@ use Rattle.protocol.specs.Runs.{Moment, Fresh, fresh, laid, no_link, seen, count
 use Rattle.medium.specs.Lanes.{is_lane}
 use Rattle.exchange.specs.Going.{Carried, Kept, LaidPlan, OwnSums}
 use Rattle.exchange.proofs.Promises.{carried_on, kept, own_sums_from_load, turn_goes_on}
-use Rattle.circles.specs.Circles.{TurnedBelow, UnsettledCircles, none, one_more, unsettled}
+use Rattle.circles.specs.Circles.{TurnedBelow, next_turn, UnsettledCircles, none, one_more, unsettled}
 use Rattle.circles.proofs.Turns.{circles_carry, no_board_turned, unsettled_from}
 use Rattle.cabinet.specs.Listed.{Listed, circle_limit}
 use Rattle.cabinet.proofs.Runs.{run_listed}
@@ -46,6 +46,7 @@ module _ {M : Type 0} (A : Algebra M) (law : Lawful A) (medium : Medium) (s : Sc
       let n = counts A (laid A s) (seen A m₁) (seen A m₂) k in
       let t = by_the_rules A medium s ok k m₁ (omega arith) still in (
         record {
+          made = next_turn k m₁ m₂ so_far.made t;
           turns = omega (arith, so_far.turns);
           carried = λ s' laid_here.
               subst (λ us. Carried A s' m m₂ us) (sym (counting_next k))
