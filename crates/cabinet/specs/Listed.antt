@@ -19,8 +19,7 @@ use Rattle.exchange.specs.Calls.{FirstWaiting, IdleBefore}
 use Rattle.exchange.specs.Going.{Kept}
 use Rattle.protocol.specs.declared.fault.RunFault.TheVariants.{Waiting}
 use Rattle.circles.specs.Circles.{circles, UnsettledCircles}
-use Rattle.cabinet.specs.Pages.{listing}
-use Rattle.cabinet.specs.Pages.{refused_page}
+use Rattle.cabinet.specs.Pages.{listing, refused_page}
 use Rattle.refusals.specs.declared.refusal.Refusal.TheVariants.{Scene as SceneRefused, Lay, Run}
 
 -- every run of every scene keeps the promise, whichever of the three types its elements have

@@ -2,8 +2,7 @@
 ghost use Rattle.std.specs.Prelude.{◌≡◌, ◌≤◌, ◌++◌, length, IfOk};
 ghost use Rattle.scene.specs.Views.{viewed};
 ghost use Rattle.exchange.specs.Going.{LaidPlan};
-ghost use Rattle.cabinet.specs.Pages.{boards_page, head_page, reports};
-ghost use Rattle.cabinet.specs.Pages.{Paged, refused_page};
+ghost use Rattle.cabinet.specs.Pages.{Paged, boards_page, head_page, refused_page, reports};
 ghost use Rattle.cabinet.specs.Listed.{EveryRunOfEachKind, record_room, RunTold, KindTold, PageTold};
 
 use crate::outcome::{Outcome, Run};

@@ -32,20 +32,20 @@ Circled A boards copies edges m m' (Err _) =
     RefusedWithin copies boards m
     × ((s : Scene) → LaidPlan s boards copies edges → (us : List ℕ) × Carried A s m m' us)
 
+-- some board is not settled, by the table
+abbrev pub unsettled : {M : Type 0} → ℕ → List Edge → Moment M → Bool
+unsettled boards edges m = nat_lt (lowest_unsettled (shape boards edges) (accepted_in m.links)) boards
+
 -- circles until every board is settled, or as many as allowed; it says whether they are
 abbrev pub Settles : {M : Type 0} → Algebra M → ℕ → List CopyRecord → List Edge → ℕ → Moment M → Moment M
     → Result Bool RunFault → Type 0
 Settles A boards copies edges limit m m' (Ok settled) =
-    (settled ≡ not (nat_lt (lowest_unsettled (shape boards edges) (accepted_in m'.links)) boards))
+    (settled ≡ not (unsettled boards edges m'))
     × ((s : Scene) → LaidPlan s boards copies edges
     → (k : ℕ) × (k ≤ limit) × (settled ≡ false → k ≡ limit) × Carried A s m m' (circles boards k))
 Settles A boards copies edges limit m m' (Err _) =
     RefusedWithin copies (limit * boards) m
     × ((s : Scene) → LaidPlan s boards copies edges → (us : List ℕ) × Carried A s m m' us)
-
--- some board is not settled, by the table
-abbrev pub unsettled : {M : Type 0} → ℕ → List Edge → Moment M → Bool
-unsettled boards edges m = nat_lt (lowest_unsettled (shape boards edges) (accepted_in m.links)) boards
 
 module _ {M : Type 0} (A : Algebra M) (boards : ℕ) (records : List CopyRecord) (edges : List Edge) where
   -- accepted turns of the boards below k, ascending, each made where the one before it led

@@ -1,5 +1,5 @@
 // The numbers of the copies: how many stand before each.
-ghost use Rattle.std.specs.Prelude.{◌≡◌, ℕ, ◌+◌, ◌<◌, ◌≤◌, length};
+ghost use Rattle.std.specs.Prelude.{ℕ, ◌+◌, ◌<◌, ◌≤◌, length};
 ghost use Rattle.laying.specs.Rows.{Holds, flag, many};
 ghost use Rattle.laying.specs.Tables.{row, number_in};
 

@@ -1,5 +1,5 @@
 // A table of what each board's own cells bring to each vertex.
-ghost use Rattle.std.specs.Prelude.{◌≡◌, ℕ, ◌+◌, ◌<◌, ◌≤◌, List, ◌++◌, length, take, drop};
+ghost use Rattle.std.specs.Prelude.{◌≡◌, ℕ, ◌+◌, ◌<◌, ◌≤◌, ◌++◌, length, take, drop};
 ghost use Rattle.scene.specs.Read.{board_of, corner_of, part_of};
 ghost use Rattle.scene.specs.Sums.{own_sum};
 ghost use Rattle.scene.specs.Views.{viewed};

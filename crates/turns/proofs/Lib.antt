@@ -1,3 +1,4 @@
 pub mod Putting
 pub mod Taking
 pub mod Turns
+pub mod Calling

@@ -1,5 +1,5 @@
 -- Receiving and sending, as the code's contracts say them, are a turn.
-use Rattle.std.proofs.Common.{◌≡◌, ℕ, ◌<◌, ◌≤◌, Bool, true, ltb, leb, List, length, None, Ok, sym, subst, inl, inr}
+use Rattle.std.proofs.Common.{◌≡◌, ℕ, ◌<◌, ◌≤◌, Bool, true, ltb, leb, List, length, None, Ok, sym, subst, inl, inr, ◌≢◌}
 use Rattle.std.proofs.Common.{arith}
 use Rattle.std.proofs.lemmas.Bool.{cases_Bool, leb-true, ltb-true}
 use Rattle.element.specs.Algebra.{Algebra}
@@ -11,13 +11,13 @@ use Rattle.plan.specs.declared.records.Edge.{Edge}
 use Rattle.plan.proofs.Plans.{boards_within}
 use Rattle.protocol.specs.declared.table.Link.{Link}
 use Rattle.protocol.specs.declared.tally.TurnCounts.{TurnCounts}
-use Rattle.protocol.specs.Turns.{Turned}
+use Rattle.protocol.specs.Turns.{Turned, puts}
 use Rattle.protocol.specs.Runs.{Moment, moment, no_tally, seen, counts}
 use Rattle.protocol.specs.Steps.{Sent, received, lanes_step, due, due_frame}
 use Rattle.protocol.proofs.Elsewhere.{other_copies_stay, copies_stay_without_frames}
 use Rattle.protocol.proofs.Fitting.{links_fit}
 use Rattle.protocol.proofs.Received.{Below, received_below}
-use Rattle.protocol.proofs.TurnMade.{turn_made, taken_counted, accepted_counted, puts_counted, lost_counted}
+use Rattle.protocol.proofs.TurnMade.{turn_made, same_due, taken_counted, accepted_counted, puts_counted, lost_counted}
 use Rattle.turns.specs.Taken.{taking_fault, TurnTaken, OwnCopiesAlone}
 
 -- where nothing is against a turn, there is such a board, and memory for all copies
@@ -77,6 +77,12 @@ module _ {M : Type 0} (A : Algebra M) (boards : ℕ) (records : List CopyRecord)
 
     turned : Turned A (shape boards edges) (seen A m) (seen A m') p
     turned = turn_made A boards edges p pb no_tally no_tally links copies lanes lanes' got _ below made lost second
+
+    -- to whom a frame is due, by what was received, is as the rules of a turn say
+    pub due_by_the_rules : (q : ℕ) → q < boards → q ≢ p
+        → due A boards edges p links' got' q ≡ puts A (shape boards edges) (seen A m) (seen A m') p q
+    due_by_the_rules = same_due A boards edges p pb no_tally no_tally links copies lanes lanes' got _ below made lost
+        second
 
     pub turn_by_the_rules : TurnTaken A boards records edges p m m' (Ok numbers)
         × OwnCopiesAlone A boards records p lanes copies copies'

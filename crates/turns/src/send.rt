@@ -5,6 +5,7 @@ ghost use Rattle.plan.specs.Links.{edges_between};
 ghost use Rattle.protocol.specs.Runs.{accepted_in};
 ghost use Rattle.protocol.specs.Turns.{others};
 ghost use Rattle.protocol.specs.Steps.{Sent, due, due_frame, item_due, frame_due};
+ghost use Rattle.turns.specs.Called.{PutsBelow};
 
 use crate::board::BoardView;
 use crate::link::{LinkView, bit_of};
@@ -57,7 +58,7 @@ impl<E: Element> Sender<'_, E> {
 
     // Puts what is due, if anything, and answers how many frames it left.
     fn speak<D: Medium>(&self, medium: &mut D) -> Option<usize>
-        ensures { let is_due = item_due self.now.link.ups.now self.now.link.downs.now self.now.arrived
+        ensures lanes { let is_due = item_due self.now.link.ups.now self.now.link.downs.now self.now.arrived
             self.now.gathered || self.now.got in
             elim result [
               | None ↦ (is_due ≡ false) × (D.Medium.lanes medium.new ≡ D.Medium.lanes medium.old)
@@ -66,6 +67,12 @@ impl<E: Element> Sender<'_, E> {
                   (frame_due E.Element.algebra self.now.link.ups.now self.now.link.downs.now
                   self.now.arrived self.now.accepted self.now.gathered self.now.copies.now) k)
             ] }
+        ensures call { elim result [
+          | None ↦ medium.new ≡ medium.old
+          | Some k ↦ D.Medium.puts medium.old self.now.link.from self.now.link.to
+              (frame_due E.Element.algebra self.now.link.ups.now self.now.link.downs.now
+              self.now.arrived self.now.accepted self.now.gathered self.now.copies.now) k medium.new
+        ] }
     {
         let frame = self.next_frame()?;
         Some(medium.put(self.link.from, self.link.to, frame))
@@ -131,6 +138,10 @@ impl BoardView<'_> {
             (due_frame E.Element.algebra self.now.plan.now.boards self.now.plan.now.edges.now self.now.board
             table.now.links copies.now) (D.Medium.lanes medium.old)
             self.now.plan.now.boards (D.Medium.lanes medium.new) result.made result.lost }
+        ensures calls { PutsBelow D.Medium.puts self.now.board (due E.Element.algebra
+            self.now.plan.now.boards self.now.plan.now.edges.now self.now.board table.now.links got.now)
+            (due_frame E.Element.algebra self.now.plan.now.boards self.now.plan.now.edges.now self.now.board
+            table.now.links copies.now) medium.old self.now.plan.now.boards medium.new }
         ensures few { result.made ≤ 8 }
     {
         let gathered = self.has_gathered(table);

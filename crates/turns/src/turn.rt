@@ -1,6 +1,8 @@
 // A turn of one board.
 ghost use Rattle.std.specs.Prelude.{◌≡◌, ◌≤◌, Some, None, Ok, Err};
 ghost use Rattle.protocol.specs.Runs.{moment, no_tally};
+ghost use Rattle.plan.specs.Links.{shape};
+ghost use Rattle.turns.specs.Called.{TurnCalls};
 ghost use Rattle.turns.specs.Taken.{taking_fault, TurnTaken, OwnCopiesAlone};
 
 use crate::board::BoardView;
@@ -49,6 +51,14 @@ pub fn take_turn<E: Element, D: Medium>(
         plan.now.copies.now board (D.Medium.lanes medium.old) copies.old
         copies.new }
     ensures still { elim result [ Ok _ ↦ Unit {0} | Err _ ↦ medium.new ≡ medium.old ] }
+    ensures calls { elim result [
+      | Ok _ ↦ TurnCalls E.Element.algebra (shape plan.now.boards plan.now.edges.now)
+          D.Medium.takes D.Medium.puts board
+          (moment no_tally table.old.links copies.old (D.Medium.lanes medium.old))
+          (moment no_tally table.new.links copies.new (D.Medium.lanes medium.new))
+          medium.old medium.new
+      | Err _ ↦ Unit {0}
+    ] }
     ensures few { elim result [
       | Ok n ↦ (n.lost ≤ n.puts) × (n.puts ≤ 8) × (n.accepted ≤ 512)
       | Err _ ↦ Unit {0}

@@ -57,5 +57,9 @@ pub fn end_by_the_book<E: Element>(
         → InEveryRun E.Element.algebra s turning.tally table.now.links
         (EndsByTheBook E.Element.algebra s result) }
 {
-    turning.end(plan, table)
+    // Kept: by cases, as above.
+    match turning.end(plan, table) {
+        Ok((ended, tally)) => Ok((ended, tally)),
+        Err(back) => Err(back),
+    }
 }

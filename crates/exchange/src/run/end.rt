@@ -1,5 +1,5 @@
-// The two ways out of a run.
-ghost use Rattle.std.specs.Prelude.{◌≡◌, ℕ, ◌<◌, ◌≤◌, not, Ok, Err, nat_lt, MatchOption};
+// How a run is left, what may be asked of it before, and how a state is put away.
+ghost use Rattle.std.specs.Prelude.{◌≡◌, ◌<◌, not, Ok, Err, nat_lt, MatchOption};
 ghost use Rattle.plan.specs.Links.{shape};
 ghost use Rattle.protocol.specs.Books.{lowest_unsettled};
 ghost use Rattle.protocol.specs.Runs.{accepted_in};

@@ -1,10 +1,9 @@
 // From loaded to turning.
-ghost use Rattle.std.specs.Prelude.{◌≡◌, ℕ, ◌/◌, ◌%◌, [], length, replicate, Ok, Err, nat_lt};
+ghost use Rattle.std.specs.Prelude.{◌≡◌, ◌/◌, ◌%◌, [], length, replicate, Ok, Err, nat_lt};
 ghost use Rattle.scene.specs.Cells.{Scene};
 ghost use Rattle.protocol.specs.Books.{blank};
-ghost use Rattle.protocol.specs.Runs.{no_link, no_tally};
-ghost use Rattle.protocol.specs.Runs.{moment};
-ghost use Rattle.exchange.specs.Calls.{FirstWaiting, IdleBefore, WaitingFault};
+ghost use Rattle.protocol.specs.Runs.{moment, no_link, no_tally};
+ghost use Rattle.exchange.specs.Calls.{IdleBefore, WaitingFault};
 ghost use Rattle.exchange.specs.Going.{Kept, LaidPlan, OwnSums};
 
 use super::{Loaded, Turning};
@@ -58,8 +57,7 @@ impl Loaded {
           | Ok t ↦ IdleBefore (D.Medium.lanes medium.now) 64 ×
               (t.tally ≡ no_tally) × (table.new.links ≡ replicate 64 no_link)
           | Err e ↦
-              ((k : ℕ) × FirstWaiting (D.Medium.lanes medium.now) k ×
-              (e.1 ≡ RunFault.Waiting (k / 8) (k % 8))) × (e.0 ≡ self) × (table.new ≡ table.old)
+              WaitingFault (D.Medium.lanes medium.now) e.1 × (e.0 ≡ self) × (table.new ≡ table.old)
         ] }
         ensures promise { elim result [
           | Ok t ↦ ((s : Scene) → LaidPlan s plan.now.boards

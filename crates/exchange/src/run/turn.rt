@@ -3,6 +3,8 @@ ghost use Rattle.std.specs.Prelude.{◌≡◌, ◌<◌, ◌≤◌, ◌&&◌, Ok,
 ghost use Rattle.scene.specs.Cells.{Scene};
 ghost use Rattle.protocol.specs.Faults.{turn_limit};
 ghost use Rattle.protocol.specs.Runs.{moment, tallied};
+ghost use Rattle.plan.specs.Links.{shape};
+ghost use Rattle.turns.specs.Called.{TurnCalls};
 ghost use Rattle.turns.specs.Taken.{OwnCopiesAlone};
 ghost use Rattle.exchange.specs.Calls.{TurnAnswers};
 ghost use Rattle.exchange.specs.Going.{GoesOn, LaidPlan};
@@ -58,6 +60,14 @@ impl Turning {
             plan.now.copies.now board (D.Medium.lanes medium.old) copies.old
             copies.new }
         ensures still { elim result [ Ok _ ↦ Unit {0} | Err _ ↦ medium.new ≡ medium.old ] }
+        ensures calls { elim result [
+          | Ok _ ↦ TurnCalls E.Element.algebra (shape plan.now.boards plan.now.edges.now)
+              D.Medium.takes D.Medium.puts board
+              (moment self.old.tally table.old.links copies.old (D.Medium.lanes medium.old))
+              (moment self.new.tally table.new.links copies.new (D.Medium.lanes medium.new))
+              medium.old medium.new
+          | Err _ ↦ Unit {0}
+        ] }
         ensures promise { (s : Scene) → LaidPlan s plan.now.boards
             plan.now.copies.now plan.now.edges.now → GoesOn E.Element.algebra s board
             (moment self.old.tally table.old.links copies.old

@@ -1,5 +1,4 @@
 // A medium that keeps no frame.
-ghost use Rattle.std.specs.Prelude.{◌≡◌};
 ghost use Rattle.medium.specs.Lanes.{empty_lanes};
 ghost use Rattle.medium.specs.Puts.{Dropped};
 ghost use Rattle.std.proofs.Common.{rules};

@@ -118,7 +118,7 @@ fn showing_is_refused(rt: HostRuntime) -> Result<(), Fail> {
 }
 
 #[test]
-fn a_run_that_starts_over_ends_with_the_totals(rt: HostRuntime) -> Result<(), Fail> {
+fn a_run_started_anew_ends_with_the_totals(rt: HostRuntime) -> Result<(), Fail> {
     let plan = plan();
     let mut table = LinkTable::new();
     let mut worn = Queue::new();

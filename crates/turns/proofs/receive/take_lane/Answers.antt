@@ -3,6 +3,7 @@ use Rattle.std.proofs.Common.{◌≡◌, ◌||◌, ◌∷◌, length, sym, ap, �
 use Rattle.protocol.specs.Frames.{some_item}
 use Rattle.protocol.specs.Steps.{held, frames_step}
 use Rattle.turns.proofs.Taking.{item_so_far, one_taken, same_emptied, none_left}
+use Rattle.turns.specs.Called.{one_take}
 use Rattle.turns.proofs.receive.take_lane.Goals as goal
 
 pub loop-frame-preserved : goal.loop-frame-preserved
@@ -26,8 +27,13 @@ loop-frame-preserved g c =
           ∙ v.item_so;
       taken_so = omega (arith, ap length lane);
       got_so = c.take_frame.ensures.got ∙ v.got_so;
+      calls = λ d so_far. one_take link.from _ _ (v.calls d so_far) c.take.ensures.made;
       short = v.short;
     }
+
+pub returns-clause-calls : goal.returns-clause-calls
+returns-clause-calls g c = λ d so_far.
+    one_take c.args.link.now.from _ _ (c.loop-frame.invariant.calls d so_far) c.take.ensures.made
 
 pub returns-clause-lanes : goal.returns-clause-lanes
 returns-clause-lanes g c =

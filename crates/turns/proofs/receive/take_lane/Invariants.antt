@@ -2,6 +2,7 @@
 use Rattle.std.proofs.Common.{◌≡◌, ◌+◌, ◌≤◌, ◌||◌, length}
 use Rattle.protocol.specs.Frames.{some_item}
 use Rattle.protocol.specs.Steps.{emptied, held, frames_step}
+use Rattle.turns.specs.Called.{TakesTo}
 use Rattle.turns.proofs.receive.take_lane.Given as goal
 
 abbrev pub invariant-loop-frame : goal.invariant-loop-frame
@@ -18,6 +19,8 @@ invariant-loop-frame g l =
       item_so : (l.item || some_item (now q p)) ≡ some_item (was q p);
       taken_so : l.haul.taken + length (now q p) ≡ l.initial.haul.taken + length (was q p);
       got_so : l.haul.got ≡ l.initial.haul.got;
+      calls : (d : g.row.D.Denot) → TakesTo g.D.Medium.takes p d l.initial.medium
+          → TakesTo g.D.Medium.takes p d l.medium;
       short : length (was q p) ≤ 64;
     }
 

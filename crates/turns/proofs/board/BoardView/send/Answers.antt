@@ -1,13 +1,23 @@
 -- One board more, and then all boards.
-use Rattle.std.proofs.Common.{◌≡◌, arith}
+use Rattle.std.proofs.Common.{◌≡◌, arith, rules}
 use Rattle.protocol.specs.Steps.{due, due_frame}
+use Rattle.turns.specs.Called.{no_board}
 use Rattle.turns.proofs.Putting.{itself, one_put, no_put}
+use Rattle.turns.proofs.Calling.{not_itself, put_called, none_called}
 use Rattle.turns.proofs.board.BoardView.send.Goals as goal
 use Rattle.turns.proofs.board.BoardView.send.Goals.{in-Some, in_default}
+
+pub loop-q-init : goal.loop-q-init
+loop-q-init g c = record {
+  so_far = search rules;
+  calls = no_board;
+  few = omega arith;
+}
 
 pub loop-q-preserved-then-q-self : goal.loop-q-preserved-then-q-self
 loop-q-preserved-then-q-self g c = record {
   so_far = itself _ _ _ _ c.loop-q.q _ _ _ c.loop-q.invariant.so_far c.if-q-self.true;
+  calls = not_itself _ _ _ _ c.args.medium.now c.loop-q.q c.loop-q.medium c.loop-q.invariant.calls c.if-q-self.true;
   few = omega arith;
 }
 
@@ -34,10 +44,22 @@ loop-q-preserved g c =
             l.ups,
             l.downs,
             c.has_gathered-gathered.ensures,
-          ) at w.in-Some.ensures in
+          ) at w.in-Some.ensures.lanes in
+          let call =
+          rw (
+            c.counts.ensures,
+            c.counts_back.ensures,
+            l.ends.0,
+            l.ends.1,
+            l.ups,
+            l.downs,
+            c.has_gathered-gathered.ensures,
+          ) at w.in-Some.ensures.call in
           rw (w.puts-is, w.add.ensures.made, w.add.ensures.lost) record {
             so_far = one_put p owed frame (lanes c.args.medium.now) q (lanes c.loop-q.medium) c.loop-q.puts.made
                 c.loop-q.puts.lost v.so_far c.if-q-self.false (lanes c.speak.new.medium) w.in-Some.left is after;
+            calls = put_called g.D.Medium.puts p owed frame c.args.medium.now q c.loop-q.medium v.calls
+                c.if-q-self.false w.in-Some.left c.speak.new.medium is call;
             few = omega arith;
           }
       | in_default w ↦
@@ -49,13 +71,20 @@ loop-q-preserved g c =
             l.ups,
             l.downs,
             c.has_gathered-gathered.ensures,
-          ) at w.in_default.ensures in
+          ) at w.in_default.ensures.lanes in
           rw w.puts-is record {
             so_far = no_put p owed frame (lanes c.args.medium.now) q (lanes c.loop-q.medium) c.loop-q.puts.made
                 c.loop-q.puts.lost v.so_far c.if-q-self.false (lanes c.speak.new.medium) is after;
+            calls = none_called g.D.Medium.puts p owed frame c.args.medium.now q c.loop-q.medium v.calls
+                c.if-q-self.false c.speak.new.medium is w.in_default.ensures.call;
             few = omega arith;
           }
     ]
+
+pub returns-clause-calls : goal.returns-clause-calls
+returns-clause-calls g c =
+    let all : c.loop-q.q ≡ c.args.self.now.plan.now.boards = omega arith in
+    rw all at c.loop-q.invariant.calls
 
 pub returns-clause-after : goal.returns-clause-after
 returns-clause-after g c =

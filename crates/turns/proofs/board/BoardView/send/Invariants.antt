@@ -1,6 +1,7 @@
 -- So far the puts to the boards below q.
 use Rattle.std.proofs.Common.{◌≤◌}
 use Rattle.protocol.specs.Steps.{Sent, due, due_frame}
+use Rattle.turns.specs.Called.{PutsBelow}
 use Rattle.turns.proofs.board.BoardView.send.Given as goal
 
 abbrev pub invariant-loop-q : goal.invariant-loop-q
@@ -13,5 +14,7 @@ invariant-loop-q g l =
           (due_frame A boards edges l.self.board l.table.links l.copies) (g.D.Medium.lanes l.initial.medium)
           l.q
           (g.D.Medium.lanes l.medium) l.puts.made l.puts.lost;
+      calls : PutsBelow g.D.Medium.puts l.self.board (due A boards edges l.self.board l.table.links l.got)
+          (due_frame A boards edges l.self.board l.table.links l.copies) l.initial.medium l.q l.medium;
       few : l.puts.made ≤ l.q;
     }
