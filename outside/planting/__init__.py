@@ -1,0 +1,1 @@
+"""Plants bugs in a proved code base, one at a time."""
