@@ -15,16 +15,6 @@ or_pairs false true c d = sym (or-true c) ∙ pick c
     pick x = refl
 or_pairs false false c d = refl
 
-pub or_last : (a b c : Bool) → c ≡ true → (a || (b || c)) ≡ true
-or_last true b c e = refl
-or_last false true c e = refl
-or_last false false c e = e
-
-pub or_drop : (a b c : Bool) → c ≡ false → (a || (b || c)) ≡ (a || b)
-or_drop true b c e = refl
-or_drop false true c e = refl
-or_drop false false c e = e
-
 module _ {X : Type 0} where
   pub any_same : (f g : X → Bool) → ((x : X) → f x ≡ g x) → (xs : List X) → any f xs ≡ any g xs
   any_same f g h [] = refl

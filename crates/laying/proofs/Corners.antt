@@ -54,6 +54,13 @@ low_at xs k x low e =
     ]
 
 module _ (v : SceneView) (c : ℕ) where
+  -- a cell that is there is on one of eight boards
+  pub board_low : c < length (viewed v).cells → (cell_at (viewed v).cells c).board < 8
+  board_low h =
+      let s = viewed v in
+      let ok = view_sound v in
+      omega (arith, ok.few_boards, All-get_or (λ x. x.board < s.boards) s.cells c no_cell h ok.owned)
+
   pub corner_low : (k x : ℕ) → corner_of (viewed v) c k ≡ Some x → x < 1024
   corner_low k x e =
       let s = viewed v in

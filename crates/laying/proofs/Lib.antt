@@ -1,4 +1,5 @@
 mod Anys
+mod BoardSets
 mod Corners
 pub mod Counts
 mod Filled

@@ -1,3 +1,4 @@
+pub mod BoardSets
 pub mod Reached
 pub mod Seen
 pub mod Rows

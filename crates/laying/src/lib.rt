@@ -1,6 +1,7 @@
 // Laying plans: the star forest of a divided scene.
 #![tactic(auto)]
 
+mod board_set;
 mod copies;
 mod edges;
 pub mod fault;

@@ -4,7 +4,7 @@ ghost use Rattle.scene.specs.Views.{viewed};
 ghost use Rattle.laying.specs.Right.{Right};
 
 use crate::numbers::numbers;
-use crate::overlap::keep_all;
+use crate::overlap::{keep_all, keepers, own_vertices};
 use crate::owners::owners;
 use crate::root::Root;
 use crate::roots::roots;
@@ -31,10 +31,11 @@ impl Tables {
         ensures right { Right (viewed scene.now) result.kept result.numbers result.roots.items }
     {
         let (boards, vertices) = (scene.boards(), scene.vertices());
-        let kept = keep_all(scene);
+        let own = own_vertices(scene);
+        let kept = keep_all(&keepers(scene, &own));
         Tables {
             numbers: numbers(&kept[..boards], vertices),
-            roots: roots(&owners(scene)[..vertices], boards),
+            roots: roots(&owners(&own)[..vertices], boards),
             kept,
             boards,
             vertices,

@@ -1,12 +1,11 @@
--- The rows of the boards below p are right.
+-- The rows of the boards below p are flagged.
 use Rattle.std.proofs.Common.{◌≡◌, ℕ, ◌<◌, length}
-use Rattle.forest.specs.Forest.{keeps}
-use Rattle.scene.specs.Views.{viewed}
+use Rattle.laying.specs.BoardSets.{has, at}
 use Rattle.laying.specs.Rows.{Tells}
 use Rattle.laying.specs.Tables.{row}
 use Rattle.laying.proofs.overlap.keep_all.Given as goal
 
 abbrev pub invariant-loop-p : goal.invariant-loop-p
 invariant-loop-p l =
-    (length l.row-items ≡ (viewed l.scene).boards)
-    × ((q : ℕ) → q < l.p → Tells (row l.row-items q) 1024 (keeps (viewed l.scene) q))
+    (length l.row-items ≡ 8)
+    × ((q : ℕ) → q < l.p → Tells (row l.row-items q) 1024 (λ v. has (at l.sets v) q))

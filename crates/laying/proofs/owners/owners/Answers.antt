@@ -1,38 +1,18 @@
--- One board more.
-use Rattle.std.proofs.Common.{◌≡◌, ℕ, Bool, None, sym, refl, ap, ◌∙◌, arith, rules}
-use Rattle.std.specs.Bool.{then_some}
-use Rattle.std.specs.Option.{option_or}
-use Rattle.std.proofs.lemmas.List.{get_or-replicate}
-use Rattle.forest.specs.Forest.{owns_cell_on}
-use Rattle.scene.proofs.Viewing.{view_sound}
-use Rattle.scene.specs.Views.{viewed}
-use Rattle.laying.specs.Rows.{flag}
+-- One vertex more.
+use Rattle.std.proofs.Common.{◌≡◌, ℕ, None, Option, ◌∙◌, arith}
+use Rattle.std.proofs.lemmas.List.{length-set}
+use Rattle.laying.specs.BoardSets.{has, at}
 use Rattle.laying.specs.Tables.{lowest_below}
-use Rattle.laying.proofs.Lowest.{lowest_more}
+use Rattle.laying.proofs.Layers.{filled_more}
 use Rattle.laying.proofs.owners.owners.Goals as goal
 
-pub loop-p-init : goal.loop-p-init
-loop-p-init c =
-    (refl, λ v h. get_or-replicate 1024 v None None (omega (arith, (view_sound c.args.scene.now).few_vertices)))
-
-pub loop-p-preserved : goal.loop-p-preserved
-loop-p-preserved c =
-    let v = c.args.scene.now in
-    let s = viewed v in
-    let few = (view_sound v).few_vertices in
-    let p = c.loop-p.p in (
-      search rules,
-      λ x h.
-          let t : ℕ → Bool = λ q. owns_cell_on s q x in
-          c.settle.ensures x (omega arith)
-          ∙ ap (λ o. option_or o (then_some (flag c.own_vertices-mine.result x) p)) (c.loop-p.invariant.1 x h)
-          ∙ ap (λ b. option_or (lowest_below t p) (then_some b p)) (c.own_vertices-mine.ensures x (omega arith))
-          ∙ sym (lowest_more t p),
+pub loop-v-preserved : goal.loop-v-preserved
+loop-v-preserved c =
+    let owners = c.loop-v.owner-items in
+    let v = c.loop-v.v in
+    let here = c.lowest.result in
+    let inv = c.loop-v.invariant in
+    let P : ℕ → Option ℕ → Type 0 = λ k o. o ≡ lowest_below (has (at c.args.sets.now k)) 8 in (
+      length-set owners v here ∙ inv.0,
+      filled_more P owners v here None (omega (arith, inv.0)) inv.1 c.lowest.ensures,
     )
-
-pub returns : goal.returns
-returns c =
-    let s = viewed c.args.scene.now in
-    let all : c.loop-p.p ≡ s.boards = omega (arith, c.boards-p-end.ensures) in
-    λ v h.
-    c.loop-p.invariant.1 v h ∙ ap (lowest_below (λ q. owns_cell_on s q v)) all

@@ -1,13 +1,10 @@
--- The owners among the boards below p.
+-- The vertices below v have their owners.
 use Rattle.std.proofs.Common.{◌≡◌, ℕ, ◌<◌, length, get_or, None}
-use Rattle.scene.specs.Views.{viewed}
-use Rattle.forest.specs.Forest.{owns_cell_on}
+use Rattle.laying.specs.BoardSets.{has, at}
 use Rattle.laying.specs.Tables.{lowest_below}
 use Rattle.laying.proofs.owners.owners.Given as goal
 
-abbrev pub invariant-loop-p : goal.invariant-loop-p
-invariant-loop-p l =
-    (length l.owners ≡ 1024)
-    × ((v : ℕ)
-    → v < (viewed l.scene).vertices
-    → get_or l.owners v None ≡ lowest_below (λ q. owns_cell_on (viewed l.scene) q v) l.p)
+abbrev pub invariant-loop-v : goal.invariant-loop-v
+invariant-loop-v l =
+    (length l.owner-items ≡ 1024)
+    × ((k : ℕ) → k < l.v → get_or l.owner-items k None ≡ lowest_below (has (at l.sets k)) 8)

@@ -1,11 +1,12 @@
 -- Boards and vertices are few, and right rows, numbers and roots say the scene's copies and edges.
-use Rattle.std.proofs.Common.{◌≡◌, None, take, length, ap, ◌∙◌, arith}
+use Rattle.std.proofs.Common.{◌≡◌, ◌<◌, None, take, length, ap, ◌∙◌, arith}
 use Rattle.std.proofs.lemmas.List.{get_or-take, length-take}
 use Rattle.scene.proofs.Viewing.{view_sound}
 use Rattle.scene.specs.Views.{viewed}
+use Rattle.laying.specs.BoardSets.{has, at}
 use Rattle.laying.specs.Tables.{number_in, roots_in}
 use Rattle.laying.proofs.Sizes.{number_taken}
-use Rattle.laying.proofs.Tied.{tables_right}
+use Rattle.laying.proofs.Tied.{owning_is, tables_right}
 use Rattle.laying.proofs.tables.Tables.of.Goals as goal
 
 pub invariant_of-result : goal.invariant_of-result
@@ -28,12 +29,17 @@ returns-clause-right c =
     let owners = take n c.owners.result in
     let rows : length (take b kept) ≡ b = omega (arith, length-take b kept, ok.few_boards) in
     let long : length owners ≡ n = omega (arith, length-take n c.owners.result, ok.few_vertices) in
-    tables_right s ok kept c.numbers.result owners c.roots.result.items c.keep_all-kept.ensures
+    tables_right s ok kept c.numbers.result owners c.roots.result.items
+    (λ p h v l. c.keep_all-kept.ensures p (omega (arith, ok.few_boards)) v l ∙ c.keepers.ensures p v l)
     (λ p h v l.
     c.numbers.ensures p (omega arith) v (omega arith)
     ∙ number_taken kept b n p v (omega arith)
     ∙ ap (λ m. number_in kept m p v) all_vertices)
-    (λ v l. get_or-take n c.owners.result v None (omega arith) ∙ c.owners.ensures v l)
+    (λ v l.
+    let few : v < 1024 = omega (arith, ok.few_vertices) in
+    get_or-take n c.owners.result v None (omega arith)
+    ∙ c.owners.ensures v few
+    ∙ owning_is s ok v (has (at c.own_vertices-own.result v)) (λ p. c.own_vertices-own.ensures p v few))
     (c.roots.ensures
     ∙ ap (λ m. roots_in owners m b) (long ∙ all_vertices)
     ∙ ap (roots_in owners s.vertices) all_boards)

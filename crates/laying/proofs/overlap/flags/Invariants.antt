@@ -1,0 +1,8 @@
+-- The vertices below v are flagged.
+use Rattle.std.proofs.Common.{◌≡◌, length}
+use Rattle.laying.specs.BoardSets.{has, at}
+use Rattle.laying.specs.Rows.{Tells}
+use Rattle.laying.proofs.overlap.flags.Given as goal
+
+abbrev pub invariant-loop-v : goal.invariant-loop-v
+invariant-loop-v l = (length l.flag-items ≡ 1024) × Tells l.flag-items l.v (λ k. has (at l.sets k) l.p)

@@ -1,0 +1,12 @@
+-- Each cell marks the boards at its corners.
+use Rattle.std.proofs.Common.{rules}
+use Rattle.forest.specs.Forest.{any}
+use Rattle.laying.specs.BoardSets.{has, at}
+use Rattle.laying.specs.Seen.{cell_of}
+use Rattle.laying.proofs.overlap.spread.Goals as goal
+
+pub returns : goal.returns
+returns c =
+    c.mark.ensures
+    (λ p n. any (λ v. has (at c.args.near.now v) p) (cell_of c.args.scene.now n).corners)
+    (λ n found l q. search rules)
