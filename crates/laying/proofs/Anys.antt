@@ -1,11 +1,12 @@
 -- Some element passes: of a list, and of the numbers below n.
-use Rattle.std.proofs.Common.{◌≡◌, ℕ, zero, suc, ◌+◌, ◌<◌, ◌≤◌, Bool, true, false, ◌&&◌, ◌||◌, List, [], ◌∷◌, length}
-use Rattle.std.proofs.Common.{get_or}
-use Rattle.std.proofs.Common.{sym, refl, ap, ◌∙◌, zero-add, add-zero, arith}
+use Rattle.std.proofs.Common.{◌≡◌, ℕ, zero, suc, ◌+◌, ◌<◌, Bool, true, false, ◌&&◌, ◌||◌, List, [], ◌∷◌, length}
+use Rattle.std.proofs.Common.{◌++◌, take, get_or}
+use Rattle.std.proofs.lemmas.List.{take_more}
+use Rattle.std.proofs.Common.{sym, refl, ap, ◌∙◌, arith}
 use Rattle.std.proofs.Math.Bool.{or-false, or-true, or_assoc}
-use Rattle.std.specs.List.{AllByRecursion, slice_get, list_any, range_with_len}
+use Rattle.std.specs.List.{AllByRecursion}
 use Rattle.forest.specs.Forest.{any}
-use Rattle.laying.specs.Rows.{some, passes}
+use Rattle.laying.specs.Rows.{some}
 
 or_pairs : (a b c d : Bool) → ((a || b) || (c || d)) ≡ ((a || c) || (b || d))
 or_pairs true b c d = refl
@@ -39,6 +40,20 @@ module _ {X : Type 0} where
   any_and true f xs = refl
   any_and false f xs = any_none xs
 
+module _ {X : Type 0} (f : X → Bool) where
+  any_append : (xs ys : List X) → any f (xs ++ ys) ≡ (any f xs || any f ys)
+  any_append [] ys = refl
+  any_append (x ∷ xs) ys =
+      ap (λ b. f x || b) (any_append xs ys) ∙ sym (or_assoc (f x) (any f xs) (any f ys))
+
+  -- the first i + 1 elements
+  pub any_more : (xs : List X) (i : ℕ) (d : X) → i < length xs
+      → any f (take (i + 1) xs) ≡ (any f (take i xs) || f (get_or xs i d))
+  any_more xs i d h =
+      ap (any f) (take_more xs i d h)
+      ∙ any_append (take i xs) (get_or xs i d ∷ [])
+      ∙ ap (λ b. any f (take i xs) || b) (or-false (f (get_or xs i d)))
+
 pub any_swap : {X Y : Type 0} (r : X → Y → Bool) (xs : List X) (ys : List Y)
     → any (λ x. any (λ y. r x y) ys) xs ≡ any (λ y. any (λ x. r x y) xs) ys
 any_swap r [] ys = sym (any_none ys)
@@ -61,27 +76,3 @@ pub some_any : {X : Type 0} (t : X → Bool) (xs : List X) (d : X) → some (λ 
 some_any t [] d = refl
 some_any t (x ∷ xs) d =
     some_front (λ k. t (get_or (x ∷ xs) k d)) (length xs) ∙ ap (λ b. t x || b) (some_any t xs d)
-
-some_none : (t : ℕ → Bool) (n : ℕ) → some (λ k. passes t (slice_get [] k)) n ≡ false
-some_none t zero = refl
-some_none t (suc n) = or-false (some (λ k. passes t (slice_get [] k)) n) ∙ some_none t n
-
--- the same, where places past the list's end are tried too
-pub some_places : (t : ℕ → Bool) (xs : List ℕ) (n : ℕ) → length xs ≤ n
-    → some (λ k. passes t (slice_get xs k)) n ≡ any t xs
-some_places t [] n h = some_none t n
-some_places t (x ∷ xs) zero h = absurd (omega arith)
-some_places t (x ∷ xs) (suc n) h =
-    some_front (λ k. passes t (slice_get (x ∷ xs) k)) n ∙ ap (λ b. t x || b) (some_places t xs n (omega arith))
-
-some_from : (f : ℕ → Bool) (a n : ℕ) → list_any f (range_with_len a n) ≡ some (λ k. f (a + k)) n
-some_from f a zero = refl
-some_from f a (suc n) =
-    ap (λ b. f a || b) (some_from f (a + 1) n)
-    ∙ ap (λ k. f k || some (λ j. f ((a + 1) + j)) n) (sym (add-zero a))
-    ∙ ap (λ b. f (a + 0) || b) (some_same (λ j. f ((a + 1) + j)) (λ j. f (a + suc j)) n (λ j l. ap f (omega arith)))
-    ∙ sym (some_front (λ k. f (a + k)) n)
-
--- some number of those below n passes
-pub some_range : (f : ℕ → Bool) (n : ℕ) → list_any f (range_with_len 0 n) ≡ some f n
-some_range f n = some_from f 0 n ∙ some_same (λ k. f (0 + k)) f n (λ k l. ap f (zero-add k))

@@ -11,6 +11,7 @@ use Rattle.forest.specs.Forest.{any, on, touch, overlaps}
 use Rattle.laying.specs.Seen.{cell_at}
 use Rattle.laying.specs.Reached.{reached}
 use Rattle.laying.specs.Rows.{some}
+use Rattle.laying.specs.Tables.{row}
 use Rattle.laying.proofs.Anys.{any_same, any_same_all, any_and, any_swap, some_same, some_any}
 
 -- a row that is filled place by place
@@ -55,12 +56,33 @@ module _ (cs : List Cell) (p m : ℕ) (near : ℕ → Bool) (is : (v : ℕ) → 
       (λ d. any_and (t d) (λ x. on x d) c.corners ∙ ap (λ b. t d && b) (touch_sym c d))
       cs
 
-  pub reached_next : ((c : ℕ) → AllByRecursion (λ v. v < 1024) (cell_at cs c).corners) → (v : ℕ)
-      → some (λ c. any near (cell_at cs c).corners && on v (cell_at cs c)) (length cs) ≡ reached cs p (suc m) v
-  reached_next low v =
-      some_same
-      (λ c. any near (cell_at cs c).corners && on v (cell_at cs c))
+  pub reached_next : (corners : List (List ℕ)) → length corners ≡ length cs
+      → ((c : ℕ) → c < length cs → row corners c ≡ (cell_at cs c).corners)
+      → ((c : ℕ) → c < length cs → AllByRecursion (λ v. v < 1024) (cell_at cs c).corners)
+      → (v : ℕ)
+      → some (λ c. any near (row corners c) && any (λ x. eqb x v) (row corners c)) (length corners)
+      ≡ reached cs p (suc m) v
+  reached_next corners all each low v =
+      ap (some (λ c. any near (row corners c) && any (λ x. eqb x v) (row corners c))) all
+      ∙ some_same
+      (λ c. any near (row corners c) && any (λ x. eqb x v) (row corners c))
       (λ c. overlaps cs p (suc m) (cell_at cs c) && on v (cell_at cs c))
       (length cs)
-      (λ c l. ap (λ b. b && on v (cell_at cs c)) (next_layer (cell_at cs c) (low c)))
+      (λ c l.
+      ap (λ xs. any near xs && any (λ x. eqb x v) xs) (each c l)
+      ∙ ap (λ b. b && on v (cell_at cs c)) (next_layer (cell_at cs c) (low c l)))
       ∙ some_any (λ d. overlaps cs p (suc m) d && on v d) cs no_cell
+
+-- a vertex is one of a board if it is on a cell of the board
+pub owned_is : (cs : List Cell) (p v : ℕ) (corners : List (List ℕ)) → length corners ≡ length cs
+    → ((c : ℕ) → c < length cs → row corners c ≡ (cell_at cs c).corners)
+    → some (λ c. eqb (cell_at cs c).board p && any (λ x. eqb x v) (row corners c)) (length corners)
+    ≡ reached cs p 0 v
+owned_is cs p v corners all each =
+    ap (some (λ c. eqb (cell_at cs c).board p && any (λ x. eqb x v) (row corners c))) all
+    ∙ some_same
+    (λ c. eqb (cell_at cs c).board p && any (λ x. eqb x v) (row corners c))
+    (λ c. eqb (cell_at cs c).board p && on v (cell_at cs c))
+    (length cs)
+    (λ c l. ap (λ xs. eqb (cell_at cs c).board p && any (λ x. eqb x v) xs) (each c l))
+    ∙ some_any (λ d. eqb d.board p && on v d) cs no_cell

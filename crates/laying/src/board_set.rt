@@ -35,7 +35,7 @@ impl BoardSet {
         requires { p < 8 }
         ensures { result ≡ has self p }
     {
-        self.bits >> p & 1 == 1
+        self.bits & 1 << p != 0
     }
 
     // The lowest board in the set, if there is one.

@@ -2,6 +2,7 @@
 #![tactic(auto)]
 
 mod board_set;
+mod cells;
 mod copies;
 mod edges;
 pub mod fault;

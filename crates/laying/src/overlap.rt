@@ -1,42 +1,51 @@
-// For each vertex the boards that keep a copy of it.
+// For each vertex the boards that own a cell on it, and those that keep a copy of it.
 ghost use Rattle.std.specs.Prelude.{◌≡◌, ℕ, ◌<◌, Bool, ◌&&◌, ◌||◌, length, nat_eq};
-ghost use Rattle.scene.specs.Read.{corner_of};
+ghost use Rattle.std.specs.List.{AllByRecursion};
 ghost use Rattle.scene.specs.Views.{viewed};
-ghost use Rattle.forest.specs.Forest.{any, on, keeps, owns_cell_on};
-ghost use Rattle.laying.specs.Seen.{cell_of};
+ghost use Rattle.forest.specs.Forest.{any, keeps, owns_cell_on};
+ghost use Rattle.laying.specs.Seen.{cell_of, ReadFrom};
 ghost use Rattle.laying.specs.BoardSets.{has, at, TellsAll};
-ghost use Rattle.laying.specs.Rows.{Tells, some, passes};
-ghost use Rattle.laying.specs.Reached.{reached};
+ghost use Rattle.laying.specs.Rows.{Tells, some};
 ghost use Rattle.laying.specs.Tables.{row};
 
 use crate::board_set::BoardSet;
 use scene::view::SceneView;
 
-// Adds the boards to the sets of the corners of cell number c.
-// Kept: a `for` and no chain, since after `for_each` a proof knows nothing of what its closure wrote.
-fn mark_cell(scene: &SceneView, c: usize, boards: BoardSet, marked: &mut [BoardSet; 1024])
+// Adds boards to those at vertex v.
+fn add(marked: &mut [BoardSet; 1024], v: u16, boards: BoardSet)
+    requires { v < 1024 }
     ensures { TellsAll marked.new 1024
-        (λ p v. has (at marked.old v) p || (has boards p && on v (cell_of scene.now c))) }
+        (λ p k. has (at marked.old k) p || (has boards p && nat_eq v k)) }
 {
-    for k in 0..scene.corners() {
-        if let Some(v) = scene.corner(c, k) {
-            marked[v] = marked[v].union(boards);
-        }
+    let v = usize::from(v);
+    marked[v] = marked[v].union(boards);
+}
+
+// Adds boards to those at the corners of a cell.
+// Kept: a `for` and no chain, since after `for_each` a proof knows nothing of what its closure wrote.
+fn mark_cell(corners: &[u16; 3], boards: BoardSet, marked: &mut [BoardSet; 1024])
+    requires { AllByRecursion (λ v. v < 1024) corners.now }
+    ensures { TellsAll marked.new 1024
+        (λ p v. has (at marked.old v) p || (has boards p && any (λ x. nat_eq x v) corners.now)) }
+{
+    for v in corners {
+        add(marked, *v, boards);
     }
 }
 
 // For each vertex the boards of the cells on it.
-fn mark<F: Fn(usize) -> BoardSet>(scene: &SceneView, boards: F) -> [BoardSet; 1024]
-    requires { (c : ℕ) → c < length (viewed scene.now).cells → F.pre boards c }
+fn mark<F: Fn(usize) -> BoardSet>(corners: &[[u16; 3]], boards: F) -> [BoardSet; 1024]
+    requires callable { (c : ℕ) → c < length corners.now → F.pre boards c }
+    requires low { (c : ℕ) → c < length corners.now → AllByRecursion (λ v. v < 1024) (row corners.now c) }
     ensures { (t : ℕ → ℕ → Bool)
-        → ((c : ℕ) (found : BoardSet) → c < length (viewed scene.now).cells → F.post boards c found
+        → ((c : ℕ) (found : BoardSet) → c < length corners.now → F.post boards c found
             → (p : ℕ) → has found p ≡ t p c)
         → TellsAll result 1024
-        (λ p v. some (λ c. t p c && on v (cell_of scene.now c)) (length (viewed scene.now).cells)) }
+        (λ p v. some (λ c. t p c && any (λ x. nat_eq x v) (row corners.now c)) (length corners.now)) }
 {
     let mut marked = [BoardSet::none(); 1024];
-    for c in 0..scene.cells() {
-        mark_cell(scene, c, boards(c), &mut marked);
+    for (c, cell) in corners.iter().enumerate() {
+        mark_cell(cell, boards(c), &mut marked);
     }
     marked
 }
@@ -53,51 +62,46 @@ fn own_board(scene: &SceneView, c: usize) -> BoardSet
 }
 
 // For each vertex the boards that own a cell on it.
-pub(crate) fn own_vertices(scene: &SceneView) -> [BoardSet; 1024]
+pub(crate) fn own_vertices(scene: &SceneView, corners: &[[u16; 3]]) -> [BoardSet; 1024]
+    requires { ReadFrom (viewed scene.now) corners.now }
     ensures { TellsAll result 1024 (owns_cell_on (viewed scene.now)) }
 {
-    mark(scene, |c| own_board(scene, c))
+    mark(corners, |c| own_board(scene, c))
 }
 
-// The boards at corner number k of cell number c, if it has one.
-fn at_corner(scene: &SceneView, c: usize, k: usize, near: &[BoardSet; 1024]) -> BoardSet
-    ensures { (p : ℕ) → has result p ≡ passes (λ v. has (at near.now v) p) (corner_of (viewed scene.now) c k) }
-{
-    match scene.corner(c, k) {
-        Some(v) => near[v],
-        None => BoardSet::none(),
-    }
-}
-
-// The boards at the corners of cell number c.
-fn at_corners(scene: &SceneView, c: usize, near: &[BoardSet; 1024]) -> BoardSet
-    ensures { (p : ℕ) → has result p ≡ any (λ v. has (at near.now v) p) (cell_of scene.now c).corners }
+// The boards at the corners of a cell.
+fn at_corners(corners: &[u16; 3], near: &[BoardSet; 1024]) -> BoardSet
+    requires { AllByRecursion (λ v. v < 1024) corners.now }
+    ensures { (p : ℕ) → has result p ≡ any (λ v. has (at near.now v) p) corners.now }
 {
     let mut boards = BoardSet::none();
-    for k in 0..scene.corners() {
-        boards = boards.union(at_corner(scene, c, k, near));
+    for v in corners {
+        boards = boards.union(near[usize::from(*v)]);
     }
     boards
 }
 
-// One layer more: each board at a vertex of a cell comes to all its vertices.
-fn spread(scene: &SceneView, near: &[BoardSet; 1024]) -> [BoardSet; 1024]
+// One layer more: each board at a corner of a cell comes to all its corners.
+fn spread(corners: &[[u16; 3]], near: &[BoardSet; 1024]) -> [BoardSet; 1024]
+    requires { (c : ℕ) → c < length corners.now → AllByRecursion (λ v. v < 1024) (row corners.now c) }
     ensures { TellsAll result 1024
-        (λ p v. some (λ c. any (λ x. has (at near.now x) p) (cell_of scene.now c).corners && on v (cell_of scene.now c))
-        (length (viewed scene.now).cells)) }
+        (λ p v. some (λ c. any (λ x. has (at near.now x) p) (row corners.now c)
+            && any (λ x. nat_eq x v) (row corners.now c))
+        (length corners.now)) }
 {
-    mark(scene, |c| at_corners(scene, c, near))
+    mark(corners, |c| at_corners(&corners[c], near))
 }
 
 // For each vertex the boards that keep a copy of it.
-pub(crate) fn keepers(scene: &SceneView, owners: &[BoardSet; 1024]) -> [BoardSet; 1024]
-    requires { TellsAll owners.now 1024 (owns_cell_on (viewed scene.now)) }
+pub(crate) fn keepers(scene: &SceneView, corners: &[[u16; 3]], owners: &[BoardSet; 1024]) -> [BoardSet; 1024]
+    requires read { ReadFrom (viewed scene.now) corners.now }
+    requires own { TellsAll owners.now 1024 (owns_cell_on (viewed scene.now)) }
     ensures { TellsAll result 1024 (keeps (viewed scene.now)) }
 {
     let mut near = *owners;
     // Kept: a `for` that repeats; each layer is made of the one before.
     for _layer in 0..scene.overlap() {
-        near = spread(scene, &near);
+        near = spread(corners, &near);
     }
     near
 }
@@ -114,7 +118,7 @@ fn flags(sets: &[BoardSet; 1024], p: usize) -> [bool; 1024]
     flags
 }
 
-// For each board, flags the vertices that it keeps.
+// For each board, flags the vertices whose sets have it.
 pub(crate) fn keep_all(sets: &[BoardSet; 1024]) -> [[bool; 1024]; 8]
     ensures { (p : ℕ) → p < 8 → Tells (row result p) 1024 (λ v. has (at sets.now v) p) }
 {

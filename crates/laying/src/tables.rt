@@ -3,6 +3,7 @@ ghost use Rattle.std.specs.Prelude.{◌≡◌, ◌≤◌};
 ghost use Rattle.scene.specs.Views.{viewed};
 ghost use Rattle.laying.specs.Right.{Right};
 
+use crate::cells::corners;
 use crate::numbers::numbers;
 use crate::overlap::{keep_all, keepers, own_vertices};
 use crate::owners::owners;
@@ -31,8 +32,10 @@ impl Tables {
         ensures right { Right (viewed scene.now) result.kept result.numbers result.roots.items }
     {
         let (boards, vertices) = (scene.boards(), scene.vertices());
-        let own = own_vertices(scene);
-        let kept = keep_all(&keepers(scene, &own));
+        let read = corners(scene);
+        let cells = &read[..scene.cells()];
+        let own = own_vertices(scene, cells);
+        let kept = keep_all(&keepers(scene, cells, &own));
         Tables {
             numbers: numbers(&kept[..boards], vertices),
             roots: roots(&owners(&own)[..vertices], boards),

@@ -1,28 +1,17 @@
--- One corner more, and all corners.
-use Rattle.std.proofs.Common.{◌≡◌, ℕ, Bool, ◌||◌, sym, ap, ◌∙◌, arith}
-use Rattle.scene.specs.Read.{corner_of}
-use Rattle.scene.specs.Views.{viewed}
+-- One corner more.
+use Rattle.std.proofs.Common.{ℕ, Bool, ◌||◌, take, sym, ap, ◌∙◌, arith}
+use Rattle.forest.specs.Forest.{any}
 use Rattle.laying.specs.BoardSets.{has, at}
-use Rattle.laying.specs.Rows.{passes, some}
-use Rattle.laying.proofs.Corners.{some_corner}
-use Rattle.laying.proofs.Gather.{some_more}
+use Rattle.laying.proofs.Anys.{any_more}
 use Rattle.laying.proofs.overlap.at_corners.Goals as goal
 
-pub loop-k-preserved : goal.loop-k-preserved
-loop-k-preserved c =
+pub loop-v-preserved : goal.loop-v-preserved
+loop-v-preserved c =
     λ p.
-    let near = c.args.near.now in
-    let k = c.loop-k.k in
-    let t : ℕ → Bool = λ j. passes (λ v. has (at near v) p) (corner_of (viewed c.args.scene.now) c.args.c j) in
+    let corners = c.args.corners.now in
+    let i = c.loop-v.v-index in
+    let f : ℕ → Bool = λ x. has (at c.args.near.now x) p in
     c.union-boards.ensures p
-    ∙ ap (λ b. b || has c.at_corner.result p) (c.loop-k.invariant p)
-    ∙ ap (λ b. some t k || b) (c.at_corner.ensures p)
-    ∙ sym (some_more t k)
-
-pub returns : goal.returns
-returns c =
-    λ p.
-    let n = c.loop-k.k in
-    let all : n ≡ c.corners-k-end.result = omega arith in
-    c.loop-k.invariant p
-    ∙ some_corner c.args.scene.now c.args.c (λ v. has (at c.args.near.now v) p) n (all ∙ c.corners-k-end.ensures)
+    ∙ ap (λ b. b || f c.from.result) (c.loop-v.invariant p)
+    ∙ ap (λ x. any f (take i corners) || f x) c.from.ensures
+    ∙ sym (any_more f corners i 0 (omega arith))

@@ -1,17 +1,13 @@
--- The boards have come to the corners below k.
-use Rattle.std.proofs.Common.{◌≡◌, ◌||◌, ◌&&◌, eqb, length}
-use Rattle.scene.specs.Read.{corner_of}
-use Rattle.scene.specs.Views.{viewed}
+-- The boards have come to the corners so far.
+use Rattle.std.proofs.Common.{◌≡◌, ◌||◌, ◌&&◌, eqb, length, take}
+use Rattle.forest.specs.Forest.{any}
 use Rattle.laying.specs.BoardSets.{has, at, TellsAll}
-use Rattle.laying.specs.Rows.{passes, some}
 use Rattle.laying.proofs.overlap.mark_cell.Given as goal
 
-abbrev pub invariant-loop-k : goal.invariant-loop-k
-invariant-loop-k l =
+abbrev pub invariant-loop-v : goal.invariant-loop-v
+invariant-loop-v l =
     (length l.marked ≡ 1024)
     × TellsAll
     l.marked
     1024
-    (λ p v.
-    has (at l.initial.marked v) p
-    || (has l.boards p && some (λ k. passes (λ x. eqb x v) (corner_of (viewed l.scene) l.c k)) l.k))
+    (λ p k. has (at l.initial.marked k) p || (has l.boards p && any (λ x. eqb x k) (take l.v-index l.corners)))

@@ -1,5 +1,5 @@
 -- A cell that is there is on one board.
-use Rattle.std.proofs.Common.{◌≡◌, eqb, Some, sym, ap, ◌∙◌, arith}
+use Rattle.std.proofs.Common.{◌≡◌, eqb, sym, ap, ◌∙◌, arith}
 use Rattle.scene.specs.Views.{viewed}
 use Rattle.scene.proofs.Reading.{board_some}
 use Rattle.laying.specs.Seen.{cell_of}

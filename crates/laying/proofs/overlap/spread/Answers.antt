@@ -2,11 +2,11 @@
 use Rattle.std.proofs.Common.{rules}
 use Rattle.forest.specs.Forest.{any}
 use Rattle.laying.specs.BoardSets.{has, at}
-use Rattle.laying.specs.Seen.{cell_of}
+use Rattle.laying.specs.Tables.{row}
 use Rattle.laying.proofs.overlap.spread.Goals as goal
 
 pub returns : goal.returns
 returns c =
     c.mark.ensures
-    (λ p n. any (λ v. has (at c.args.near.now v) p) (cell_of c.args.scene.now n).corners)
+    (λ p n. any (λ v. has (at c.args.near.now v) p) (row c.args.corners.now n))
     (λ n found l q. search rules)

@@ -1,5 +1,5 @@
 -- The lowest bit that is set.
-use Rattle.std.proofs.Common.{◌<◌, ◌^◌, sym, arith}
+use Rattle.std.proofs.Common.{sym, arith}
 use Rattle.laying.proofs.BoardSets.{lowest_bit}
 use Rattle.laying.proofs.board_set.BoardSet.lowest.Goals as goal
 

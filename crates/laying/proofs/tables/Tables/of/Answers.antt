@@ -1,5 +1,5 @@
 -- Boards and vertices are few, and right rows, numbers and roots say the scene's copies and edges.
-use Rattle.std.proofs.Common.{◌≡◌, ◌<◌, None, take, length, ap, ◌∙◌, arith}
+use Rattle.std.proofs.Common.{◌≡◌, ◌<◌, [], None, take, length, ap, ◌∙◌, arith}
 use Rattle.std.proofs.lemmas.List.{get_or-take, length-take}
 use Rattle.scene.proofs.Viewing.{view_sound}
 use Rattle.scene.specs.Views.{viewed}
@@ -8,6 +8,38 @@ use Rattle.laying.specs.Tables.{number_in, roots_in}
 use Rattle.laying.proofs.Sizes.{number_taken}
 use Rattle.laying.proofs.Tied.{owning_is, tables_right}
 use Rattle.laying.proofs.tables.Tables.of.Goals as goal
+
+pub slice_bounds-read-end : goal.slice_bounds-read-end
+slice_bounds-read-end c = omega (arith, c.cells.ensures, (view_sound c.args.scene.now).few_cells)
+
+pub slice_bounds-cells-end : goal.slice_bounds-cells-end
+slice_bounds-cells-end c =
+    omega (
+      arith,
+      c.cells.ensures,
+      (view_sound c.args.scene.now).few_cells,
+      length-take c.cells.result c.corners-read.result,
+    )
+
+pub own_vertices-own-requires : goal.own_vertices-own-requires
+own_vertices-own-requires c =
+    let n = c.cells.result in
+    let all = c.corners-read.result in
+    let few = (view_sound c.args.scene.now).few_cells in
+    record {
+      all = omega (arith, length-take n all, c.cells.ensures, few);
+      each = λ k h. get_or-take n all k [] (omega (arith, c.cells.ensures)) ∙ c.corners-read.ensures k h;
+    }
+
+pub keepers-requires-clause-read : goal.keepers-requires-clause-read
+keepers-requires-clause-read c =
+    let n = c.cells.result in
+    let all = c.corners-read.result in
+    let few = (view_sound c.args.scene.now).few_cells in
+    record {
+      all = omega (arith, length-take n all, c.cells.ensures, few);
+      each = λ k h. get_or-take n all k [] (omega (arith, c.cells.ensures)) ∙ c.corners-read.ensures k h;
+    }
 
 pub invariant_of-result : goal.invariant_of-result
 invariant_of-result c =
