@@ -1,16 +1,14 @@
 -- How many copies and roots the tables say, and the rows as they are counted and written.
-use Rattle.std.proofs.Common.{◌≡◌, ℕ, zero, suc, ◌+◌, ◌*◌, ◌<◌, ◌≤◌, Bool, false, List, [], ◌++◌, length, count_by}
-use Rattle.std.proofs.Common.{sum_by, get_or, take, eqb, None, Option}
-use Rattle.std.proofs.Common.{sym, refl, ap, ◌∙◌, inl, inr, add-one, arith}
+use Rattle.std.proofs.Common.{◌≡◌, ℕ, zero, suc, ◌*◌, ◌<◌, ◌≤◌, Bool, false, List, [], ◌++◌, length}
+use Rattle.std.proofs.Common.{get_or, take, eqb, None, Option}
+use Rattle.std.proofs.Common.{sym, ap, ◌∙◌, inl, inr, arith}
 use Rattle.laying.specs.Rows.{flag, many, only, passes}
 use Rattle.laying.specs.Tables.{row, copy_record, copy_at, row_copies, board_copies, copies_in, number_in}
 use Rattle.laying.specs.Tables.{root_at, roots_in}
 use Rattle.laying.proofs.Counts.{gathered_same, many_same}
 use Rattle.laying.proofs.Gather.{length_only, many_le, many_one, rows_few}
-use Rattle.std.proofs.lemmas.Bool.{cases_Bool, cases_lt}
+use Rattle.std.proofs.lemmas.Bool.{cases_lt}
 use Rattle.std.proofs.lemmas.List.{length-append, length-take-le, append-nil, take_all, get_or_past, get_or-take}
-use Rattle.std.proofs.lemmas.List.Sums.{count_by_more_yes, count_by_more_no, sum_by_more}
-use mir.Val.{bool_byte}
 
 pub row_size : (keep : List Bool) (p n : ℕ) → length (row_copies keep p n) ≡ many (flag keep) n
 row_size keep p n = length_only (flag keep) (copy_record p) n
@@ -36,49 +34,6 @@ roots_few owners n b =
     (λ v.
     let o = get_or owners v None in
     omega (arith, length_only (λ q. passes (λ x. eqb x q) o) (λ q. copy_record q v) b, many_one o b))
-
-none_set : (n : ℕ) → many (flag []) n ≡ 0
-none_set zero = refl
-none_set (suc n) = omega (arith, none_set n)
-
--- the copies of the boards below p, counted row by row
-pub rows_counted : (table : List (List Bool)) (n p : ℕ)
-    → sum_by (λ r. many (flag r) n) (take p table) ≡ length (copies_in table n p)
-rows_counted table n zero = refl
-rows_counted table n (suc p) =
-    let counted : List Bool → ℕ = λ r. many (flag r) n in
-    let so_far = rows_counted table n p in
-    let more : sum_by counted (take (suc p) table) ≡ sum_by counted (take (p + 1) table) =
-    ap (λ k. sum_by counted (take k table)) (sym (add-one p)) in
-    let size = row_size (row table p) p n in
-    let all = length-append (copies_in table n p) (board_copies table n p) in
-    elim (cases_lt p (length table)) [
-      | inl h ↦ omega (arith, more, so_far, sum_by_more counted table p [] h, size, all)
-      | inr h ↦
-          let same : sum_by counted (take (p + 1) table) ≡ sum_by counted (take p table) =
-          ap (sum_by counted) (take_all (p + 1) table (omega arith) ∙ sym (take_all p table h)) in
-          let none : counted (row table p) ≡ 0 = ap counted (get_or_past table p [] h) ∙ none_set n in
-          omega (arith, more, so_far, same, none, size, all)
-    ]
-
--- the flags set among a row's first n
-pub flags_counted : (row : List Bool) (n : ℕ) → count_by (λ b. b) (take n row) ≡ many (flag row) n
-flags_counted row zero = refl
-flags_counted row (suc n) =
-    let so_far = flags_counted row n in
-    let more : count_by (λ b. b) (take (suc n) row) ≡ count_by (λ b. b) (take (n + 1) row) =
-    ap (λ k. count_by (λ (b : Bool). b) (take k row)) (sym (add-one n)) in
-    elim (cases_lt n (length row)) [
-      | inl h ↦
-          elim (cases_Bool (get_or row n false)) [
-            | inl e ↦ omega (arith, more, so_far, count_by_more_yes (λ b. b) row n false h e, ap bool_byte e)
-            | inr e ↦ omega (arith, more, so_far, count_by_more_no (λ b. b) row n false h e, ap bool_byte e)
-          ]
-      | inr h ↦
-          let same : count_by (λ b. b) (take (n + 1) row) ≡ count_by (λ b. b) (take n row) =
-          ap (count_by (λ (b : Bool). b)) (take_all (n + 1) row (omega arith) ∙ sym (take_all n row h)) in
-          omega (arith, more, so_far, same, ap bool_byte (get_or_past row n false h))
-    ]
 
 -- the numbers below v stay in a row cut after n vertices
 pub flags_taken : (row : List Bool) (n v : ℕ) → v ≤ n → many (flag (take n row)) v ≡ many (flag row) v
@@ -127,3 +82,9 @@ number_taken table b n p v h =
     let same = gathered_same (board_copies (take b table) n) (board_copies table n) p
     (λ q l. ap (λ r. row_copies r q n) (is_row table b n q (omega arith))) in
     omega (arith, ap length same, ap (λ r. many (flag r) v) (is_row table b n p h))
+
+-- the copies of the first b rows
+pub rows_taken : (table : List (List Bool)) (b n : ℕ) → copies_in (take b table) n b ≡ copies_in table n b
+rows_taken table b n =
+    gathered_same (board_copies (take b table) n) (board_copies table n) b
+    (λ q l. ap (λ r. row_copies r q n) (is_row table b n q l))

@@ -1,4 +1,4 @@
-// Counting and writing the copies of a plan.
+// Writing the copies of a plan.
 ghost use Rattle.std.specs.Prelude.{◌≡◌, ◌<◌, ◌≤◌, ◌++◌, length, drop};
 ghost use Rattle.laying.specs.Filled.{HasRoom, Appends};
 ghost use Rattle.laying.specs.Said.{all_copies};
@@ -6,7 +6,6 @@ ghost use Rattle.laying.specs.Rows.{only};
 ghost use Rattle.laying.specs.Tables.{copy_record, row_copies};
 
 use crate::filling::Filling;
-use crate::rows::count;
 use crate::tables::Tables;
 use plan::records::CopyRecord;
 
@@ -35,16 +34,6 @@ fn write_row(row: &[bool], p: u8, out: &mut Filling<CopyRecord>)
 }
 
 impl Tables {
-    // How many copies the boards keep.
-    pub(crate) fn count_copies(&self) -> usize
-        ensures { result ≡ length (all_copies self.now) }
-    {
-        self.kept[..self.boards]
-            .iter()
-            .map(|row| count(&row[..self.vertices]))
-            .sum()
-    }
-
     // Writes the copies of all boards.
     pub(crate) fn write_copies(&self, copies: &mut [CopyRecord])
         requires { length (all_copies self.now) ≤ length copies.old }

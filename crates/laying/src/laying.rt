@@ -38,9 +38,10 @@ pub fn lay(
         (laid_copies (scene_of scene.now.bytes.now))
         (laid_edges (scene_of scene.now.bytes.now)) ≡ true }
 {
-    let tables = Tables::of(scene);
+    let mut tables = Tables::empty();
+    tables.fill(scene);
     let counts = LaidCounts {
-        copies: tables.count_copies(),
+        copies: tables.copies,
         edges: tables.count_edges(),
     };
     if copies.len() < counts.copies {

@@ -13,5 +13,4 @@ mod overlap;
 mod owners;
 mod root;
 mod roots;
-mod rows;
 mod tables;

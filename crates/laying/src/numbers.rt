@@ -1,36 +1,33 @@
 // The numbers of the copies: how many stand before each.
-ghost use Rattle.std.specs.Prelude.{ℕ, ◌+◌, ◌<◌, ◌≤◌, length};
+ghost use Rattle.std.specs.Prelude.{◌≡◌, ℕ, ◌+◌, ◌<◌, ◌≤◌, length};
 ghost use Rattle.laying.specs.Rows.{Holds, flag, many};
-ghost use Rattle.laying.specs.Tables.{row, number_in};
+ghost use Rattle.laying.specs.Tables.{row, copies_in, number_in};
 
-use crate::rows::count;
-
-// For each vertex the number of a board's copy of it, where the board's copies begin at number `first`.
-fn number_row(row: &[bool], first: usize) -> [u16; 1024]
+// Numbers a board's copies, which begin at number `first`, and answers the number that follows.
+fn number_row(row: &[bool], first: usize, numbers: &mut [u16; 1024]) -> usize
     requires few { length row.now ≤ 1024 }
     requires small { first ≤ 8192 }
-    ensures { Holds result (length row.now) (λ v. first + many (flag row.now) v) }
+    ensures held { Holds numbers.new (length row.now) (λ v. first + many (flag row.now) v) }
+    ensures next { result ≡ first + many (flag row.now) (length row.now) }
 {
-    let mut numbers = [0; 1024];
     let mut next = first;
     for (v, kept) in row.iter().enumerate() {
         numbers[v] = next as u16;
         next += usize::from(*kept);
     }
-    numbers
+    next
 }
 
-// For each board and vertex the number of the board's copy, where the boards keep the flagged ones of n vertices.
-pub(crate) fn numbers(kept: &[[bool; 1024]], n: usize) -> [[u16; 1024]; 8]
+// Numbers the copies of all boards, which keep the flagged ones of n vertices, and answers how many there are.
+pub(crate) fn number_all(kept: &[[bool; 1024]], n: usize, numbers: &mut [[u16; 1024]; 8]) -> usize
     requires boards { length kept.now ≤ 8 }
     requires vertices { n ≤ 1024 }
-    ensures { (p : ℕ) → p < length kept.now → Holds (row result p) n (number_in kept.now n p) }
+    ensures held { (p : ℕ) → p < length kept.now → Holds (row numbers.new p) n (number_in kept.now n p) }
+    ensures count { result ≡ length (copies_in kept.now n (length kept.now)) }
 {
-    let mut numbers = [[0; 1024]; 8];
-    let mut first = 0;
+    let mut next = 0;
     for (p, row) in kept.iter().enumerate() {
-        numbers[p] = number_row(&row[..n], first);
-        first += count(&row[..n]);
+        next = number_row(&row[..n], next, &mut numbers[p]);
     }
-    numbers
+    next
 }

@@ -107,24 +107,20 @@ pub(crate) fn keepers(scene: &SceneView, corners: &[[u16; 3]], owners: &[BoardSe
 }
 
 // Flags the vertices whose sets have board p.
-fn flags(sets: &[BoardSet; 1024], p: usize) -> [bool; 1024]
+fn flag_row(sets: &[BoardSet; 1024], p: usize, row: &mut [bool; 1024])
     requires { p < 8 }
-    ensures { Tells result 1024 (λ v. has (at sets.now v) p) }
+    ensures { Tells row.new 1024 (λ v. has (at sets.now v) p) }
 {
-    let mut flags = [false; 1024];
-    for (v, flag) in flags.iter_mut().enumerate() {
+    for (v, flag) in row.iter_mut().enumerate() {
         *flag = sets[v].has(p);
     }
-    flags
 }
 
 // For each board, flags the vertices whose sets have it.
-pub(crate) fn keep_all(sets: &[BoardSet; 1024]) -> [[bool; 1024]; 8]
-    ensures { (p : ℕ) → p < 8 → Tells (row result p) 1024 (λ v. has (at sets.now v) p) }
+pub(crate) fn flag_all(sets: &[BoardSet; 1024], rows: &mut [[bool; 1024]; 8])
+    ensures { (p : ℕ) → p < 8 → Tells (row rows.new p) 1024 (λ v. has (at sets.now v) p) }
 {
-    let mut kept = [[false; 1024]; 8];
-    for (p, row) in kept.iter_mut().enumerate() {
-        *row = flags(sets, p);
+    for (p, row) in rows.iter_mut().enumerate() {
+        flag_row(sets, p, row);
     }
-    kept
 }

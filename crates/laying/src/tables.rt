@@ -1,18 +1,19 @@
 // The working tables of a scene, from which its plan is counted and written.
-ghost use Rattle.std.specs.Prelude.{◌≡◌, ◌≤◌};
+ghost use Rattle.std.specs.Prelude.{◌≡◌, ◌≤◌, length};
 ghost use Rattle.scene.specs.Views.{viewed};
 ghost use Rattle.laying.specs.Right.{Right};
+ghost use Rattle.laying.specs.Tables.{copies_in};
 
 use crate::cells::corners;
-use crate::numbers::numbers;
-use crate::overlap::{keep_all, keepers, own_vertices};
+use crate::numbers::number_all;
+use crate::overlap::{flag_all, keepers, own_vertices};
 use crate::owners::owners;
 use crate::root::Root;
 use crate::roots::roots;
 use arrayvec::ArrayVec;
 use scene::view::SceneView;
 
-// For each board the vertices that it keeps and the numbers of its copies, and all roots.
+// For each board the vertices that it keeps and the numbers of its copies, all roots, and how many copies there are.
 // Kept: arrays as long as a scene may be, since laying takes no heap and may not fail for memory.
 #[derive(Drop)]
 pub(crate) struct Tables {
@@ -21,27 +22,40 @@ pub(crate) struct Tables {
     pub(crate) roots: ArrayVec<Root, 1024>,
     pub(crate) boards: usize,
     pub(crate) vertices: usize,
+    pub(crate) copies: usize,
     ghost few: { boards ≤ 8 },
     ghost small: { vertices ≤ 1024 },
 }
 
 impl Tables {
-    pub(crate) fn of(scene: &SceneView) -> Tables
-        ensures boards { result.boards ≡ (viewed scene.now).boards }
-        ensures vertices { result.vertices ≡ (viewed scene.now).vertices }
-        ensures right { Right (viewed scene.now) result.kept result.numbers result.roots.items }
+    // Of no boards and no vertices.
+    pub(crate) fn empty() -> Tables {
+        Tables {
+            kept: [[false; 1024]; 8],
+            numbers: [[0; 1024]; 8],
+            roots: ArrayVec::new(),
+            boards: 0,
+            vertices: 0,
+            copies: 0,
+        }
+    }
+
+    // Kept: filled in place, since to hand so long arrays from call to call takes longer than to fill them.
+    pub(crate) fn fill(&mut self, scene: &SceneView)
+        ensures boards { self.new.boards ≡ (viewed scene.now).boards }
+        ensures vertices { self.new.vertices ≡ (viewed scene.now).vertices }
+        ensures copies { self.new.copies
+            ≡ length (copies_in self.new.kept self.new.vertices self.new.boards) }
+        ensures right { Right (viewed scene.now) self.new.kept self.new.numbers self.new.roots.items }
     {
         let (boards, vertices) = (scene.boards(), scene.vertices());
         let read = corners(scene);
         let cells = &read[..scene.cells()];
         let own = own_vertices(scene, cells);
-        let kept = keep_all(&keepers(scene, cells, &own));
-        Tables {
-            numbers: numbers(&kept[..boards], vertices),
-            roots: roots(&owners(&own)[..vertices], boards),
-            kept,
-            boards,
-            vertices,
-        }
+        flag_all(&keepers(scene, cells, &own), &mut self.kept);
+        self.copies = number_all(&self.kept[..boards], vertices, &mut self.numbers);
+        self.roots = roots(&owners(&own)[..vertices], boards);
+        self.boards = boards;
+        self.vertices = vertices;
     }
 }

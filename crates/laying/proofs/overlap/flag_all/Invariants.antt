@@ -3,9 +3,9 @@ use Rattle.std.proofs.Common.{◌≡◌, ℕ, ◌<◌, length}
 use Rattle.laying.specs.BoardSets.{has, at}
 use Rattle.laying.specs.Rows.{Tells}
 use Rattle.laying.specs.Tables.{row}
-use Rattle.laying.proofs.overlap.keep_all.Given as goal
+use Rattle.laying.proofs.overlap.flag_all.Given as goal
 
 abbrev pub invariant-loop-p : goal.invariant-loop-p
 invariant-loop-p l =
-    (length l.row-items ≡ 8)
-    × ((q : ℕ) → q < l.p → Tells (row l.row-items q) 1024 (λ v. has (at l.sets v) q))
+    (length l.rows ≡ 8)
+    × ((q : ℕ) → q < l.p → Tells (row l.rows q) 1024 (λ v. has (at l.sets v) q))

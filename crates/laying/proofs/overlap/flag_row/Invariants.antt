@@ -2,7 +2,7 @@
 use Rattle.std.proofs.Common.{◌≡◌, length}
 use Rattle.laying.specs.BoardSets.{has, at}
 use Rattle.laying.specs.Rows.{Tells}
-use Rattle.laying.proofs.overlap.flags.Given as goal
+use Rattle.laying.proofs.overlap.flag_row.Given as goal
 
 abbrev pub invariant-loop-v : goal.invariant-loop-v
-invariant-loop-v l = (length l.flag-items ≡ 1024) × Tells l.flag-items l.v (λ k. has (at l.sets k) l.p)
+invariant-loop-v l = (length l.row ≡ 1024) × Tells l.row l.v (λ k. has (at l.sets k) l.p)
