@@ -10,3 +10,4 @@ mod Lowest
 mod Sizes
 mod Stands
 mod Tied
+mod Totals

@@ -1,4 +1,4 @@
-// Counting and writing the edges of a plan: for each leaf board one pass over the roots.
+// Writing the edges of a plan: for each leaf board one pass over the roots.
 ghost use Rattle.std.specs.Prelude.{◌≡◌, ◌<◌, ◌≤◌, ◌++◌, length, drop};
 ghost use Rattle.laying.specs.Filled.{HasRoom, Appends};
 ghost use Rattle.laying.specs.Said.{ghost_at, edge_to, edges_from, all_edges};
@@ -22,18 +22,6 @@ impl LeafBoard<'_> {
     {
         let kept = &self.tables.kept;
         usize::from(root.board) != self.board && kept[self.board][usize::from(root.vertex)]
-    }
-
-    // How many ghosts the board has, and so edges.
-    fn count(&self) -> usize
-        ensures few { result ≤ 1024 }
-        ensures exact { result ≡ length (edges_from self.now.tables.now self.now.board) }
-    {
-        self.tables
-            .roots
-            .iter()
-            .filter(|root| self.has_ghost(**root))
-            .count()
     }
 
     // Appends the edge to a root, if the board has a ghost of it.
@@ -76,13 +64,6 @@ impl Tables {
             tables: self,
             board: p,
         }
-    }
-
-    // How many edges there are.
-    pub(crate) fn count_edges(&self) -> usize
-        ensures { result ≡ length (all_edges self.now) }
-    {
-        (0..self.boards).map(|p| self.leaf_board(p).count()).sum()
     }
 
     // Writes the edges of all boards.

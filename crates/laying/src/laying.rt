@@ -39,11 +39,7 @@ pub fn lay(
         (laid_edges (scene_of scene.now.bytes.now)) ≡ true }
 {
     let mut tables = Tables::empty();
-    tables.fill(scene);
-    let counts = LaidCounts {
-        copies: tables.copies,
-        edges: tables.count_edges(),
-    };
+    let counts = tables.fill(scene);
     if copies.len() < counts.copies {
         return Err(LayFault::Copies {
             needed: counts.copies,

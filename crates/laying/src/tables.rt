@@ -2,9 +2,10 @@
 ghost use Rattle.std.specs.Prelude.{◌≡◌, ◌≤◌, length};
 ghost use Rattle.scene.specs.Views.{viewed};
 ghost use Rattle.laying.specs.Right.{Right};
-ghost use Rattle.laying.specs.Tables.{copies_in};
+ghost use Rattle.forest.specs.Forest.{laid_copies, laid_edges};
 
 use crate::cells::corners;
+use crate::laying::LaidCounts;
 use crate::numbers::number_all;
 use crate::overlap::{flag_all, keepers, own_vertices};
 use crate::owners::owners;
@@ -13,7 +14,7 @@ use crate::roots::roots;
 use arrayvec::ArrayVec;
 use scene::view::SceneView;
 
-// For each board the vertices that it keeps and the numbers of its copies, all roots, and how many copies there are.
+// For each board the vertices that it keeps and the numbers of its copies, and all roots.
 // Kept: arrays as long as a scene may be, since laying takes no heap and may not fail for memory.
 #[derive(Drop)]
 pub(crate) struct Tables {
@@ -22,7 +23,6 @@ pub(crate) struct Tables {
     pub(crate) roots: ArrayVec<Root, 1024>,
     pub(crate) boards: usize,
     pub(crate) vertices: usize,
-    pub(crate) copies: usize,
     ghost few: { boards ≤ 8 },
     ghost small: { vertices ≤ 1024 },
 }
@@ -36,26 +36,29 @@ impl Tables {
             roots: ArrayVec::new(),
             boards: 0,
             vertices: 0,
-            copies: 0,
         }
     }
 
-    // Kept: filled in place, since to hand so long arrays from call to call takes longer than to fill them.
-    pub(crate) fn fill(&mut self, scene: &SceneView)
+    // Fills them for a scene, and answers how many records its plan has: each copy that is no root has one edge.
+    // Kept: in place, since to hand so long arrays from call to call takes longer than to fill them.
+    pub(crate) fn fill(&mut self, scene: &SceneView) -> LaidCounts
         ensures boards { self.new.boards ≡ (viewed scene.now).boards }
         ensures vertices { self.new.vertices ≡ (viewed scene.now).vertices }
-        ensures copies { self.new.copies
-            ≡ length (copies_in self.new.kept self.new.vertices self.new.boards) }
         ensures right { Right (viewed scene.now) self.new.kept self.new.numbers self.new.roots.items }
+        ensures copies { result.copies ≡ length (laid_copies (viewed scene.now)) }
+        ensures edges { result.edges ≡ length (laid_edges (viewed scene.now)) }
     {
         let (boards, vertices) = (scene.boards(), scene.vertices());
         let read = corners(scene);
         let cells = &read[..scene.cells()];
         let own = own_vertices(scene, cells);
         flag_all(&keepers(scene, cells, &own), &mut self.kept);
-        self.copies = number_all(&self.kept[..boards], vertices, &mut self.numbers);
-        self.roots = roots(&owners(&own)[..vertices], boards);
+        let copies = number_all(&self.kept[..boards], vertices, &mut self.numbers);
+        let roots = roots(&owners(&own)[..vertices], boards);
+        let edges = copies - roots.len();
+        self.roots = roots;
         self.boards = boards;
         self.vertices = vertices;
+        LaidCounts { copies, edges }
     }
 }

@@ -1,12 +1,12 @@
 -- Boards and vertices are few, and right rows, numbers and roots say the scene's copies and edges.
-use Rattle.std.proofs.Common.{◌≡◌, ◌<◌, [], None, take, length, ap, ◌∙◌, arith}
+use Rattle.std.proofs.Common.{◌≡◌, ◌≤◌, rules, [], take, length, ap, ◌∙◌, arith}
 use Rattle.std.proofs.lemmas.List.{get_or-take, length-take}
 use Rattle.scene.proofs.Viewing.{view_sound}
 use Rattle.scene.specs.Views.{viewed}
-use Rattle.laying.specs.BoardSets.{has, at}
-use Rattle.laying.specs.Tables.{copies_in, number_in, roots_in}
-use Rattle.laying.proofs.Sizes.{number_taken, rows_taken}
-use Rattle.laying.proofs.Tied.{owning_is, tables_right}
+use Rattle.laying.specs.Tables.{number_in}
+use Rattle.laying.proofs.Sizes.{number_taken}
+use Rattle.laying.proofs.Tied.{rows_are, copies_counted, owners_are, roots_are, tables_right}
+use Rattle.laying.proofs.Totals.{counted}
 use Rattle.laying.proofs.tables.Tables.fill.Goals as goal
 
 pub slice_bounds-read-end : goal.slice_bounds-read-end
@@ -41,16 +41,63 @@ keepers-requires-clause-read c =
       each = λ k h. get_or-take n all k [] (omega (arith, c.cells.ensures)) ∙ c.corners-read.ensures k h;
     }
 
-pub returns-clause-copies : goal.returns-clause-copies
-returns-clause-copies c =
+pub overflow_sub-edges : goal.overflow_sub-edges
+overflow_sub-edges c =
+    let s = viewed c.args.scene.now in
+    let ok = view_sound c.args.scene.now in
     let kept = c.flag_all.new.rows in
     let b = c.boards-boards.result in
     let n = c.vertices-vertices.result in
-    let few = (view_sound c.args.scene.now).few_boards in
-    let rows : length (take b kept) ≡ b = omega (arith, length-take b kept, c.boards-boards.ensures, few) in
-    c.number_all-self.ensures.count
-    ∙ ap (λ m. length (copies_in (take b kept) n m)) rows
-    ∙ ap length (rows_taken kept b n)
+    let boards = c.boards-boards.ensures in
+    let vertices = c.vertices-vertices.ensures in
+    let owners = c.owners.result in
+    let roots = c.roots-roots.result.items in
+    let own = c.own_vertices-own in
+    let size : length (take b kept) ≡ b = omega (arith, length-take b kept, ok.few_boards) in
+    let rows = rows_are s ok kept c.keepers.result c.flag_all.ensures c.keepers.ensures in
+    let below : c.len.result ≤ c.number_all-copies.result = omega (
+      arith,
+      copies_counted s ok kept rows b n _ boards vertices size c.number_all-copies.ensures.count,
+      counted s ok (take n owners)
+      (owners_are s ok owners n vertices own.result own.ensures c.owners.ensures) roots
+      (roots_are s ok owners n vertices b roots boards (omega arith) c.roots-roots.ensures),
+      c.len.ensures.value,
+    ) in
+    search rules
+
+pub returns-clause-copies : goal.returns-clause-copies
+returns-clause-copies c =
+    let s = viewed c.args.scene.now in
+    let ok = view_sound c.args.scene.now in
+    let kept = c.flag_all.new.rows in
+    let b = c.boards-boards.result in
+    let size : length (take b kept) ≡ b = omega (arith, length-take b kept, ok.few_boards) in
+    let rows = rows_are s ok kept c.keepers.result c.flag_all.ensures c.keepers.ensures in
+    copies_counted s ok kept rows b c.vertices-vertices.result _ c.boards-boards.ensures
+    c.vertices-vertices.ensures size c.number_all-copies.ensures.count
+
+pub returns-clause-edges : goal.returns-clause-edges
+returns-clause-edges c =
+    let s = viewed c.args.scene.now in
+    let ok = view_sound c.args.scene.now in
+    let kept = c.flag_all.new.rows in
+    let b = c.boards-boards.result in
+    let n = c.vertices-vertices.result in
+    let boards = c.boards-boards.ensures in
+    let vertices = c.vertices-vertices.ensures in
+    let owners = c.owners.result in
+    let roots = c.roots-roots.result.items in
+    let own = c.own_vertices-own in
+    let size : length (take b kept) ≡ b = omega (arith, length-take b kept, ok.few_boards) in
+    let rows = rows_are s ok kept c.keepers.result c.flag_all.ensures c.keepers.ensures in
+    omega (
+      arith,
+      copies_counted s ok kept rows b n _ boards vertices size c.number_all-copies.ensures.count,
+      counted s ok (take n owners)
+      (owners_are s ok owners n vertices own.result own.ensures c.owners.ensures) roots
+      (roots_are s ok owners n vertices b roots boards (omega arith) c.roots-roots.ensures),
+      c.len.ensures.value,
+    )
 
 pub returns-clause-right : goal.returns-clause-right
 returns-clause-right c =
@@ -59,22 +106,16 @@ returns-clause-right c =
     let kept = c.flag_all.new.rows in
     let b = c.boards-boards.result in
     let n = c.vertices-vertices.result in
-    let all_boards : b ≡ s.boards = c.boards-boards.ensures in
-    let all_vertices : n ≡ s.vertices = c.vertices-vertices.ensures in
-    let owners = take n c.owners.result in
+    let vertices = c.vertices-vertices.ensures in
+    let owners = c.owners.result in
+    let roots = c.roots-roots.result.items in
+    let own = c.own_vertices-own in
     let rows : length (take b kept) ≡ b = omega (arith, length-take b kept, ok.few_boards) in
-    let long : length owners ≡ n = omega (arith, length-take n c.owners.result, ok.few_vertices) in
-    tables_right s ok kept c.number_all-self.new.numbers owners c.roots-self.result.items
-    (λ p h v l. c.flag_all.ensures p (omega (arith, ok.few_boards)) v l ∙ c.keepers.ensures p v l)
+    tables_right s ok kept (rows_are s ok kept c.keepers.result c.flag_all.ensures c.keepers.ensures)
+    c.number_all-copies.new.numbers (take n owners) roots
     (λ p h v l.
-    c.number_all-self.ensures.held p (omega arith) v (omega arith)
+    c.number_all-copies.ensures.held p (omega arith) v (omega arith)
     ∙ number_taken kept b n p v (omega arith)
-    ∙ ap (λ m. number_in kept m p v) all_vertices)
-    (λ v l.
-    let few : v < 1024 = omega (arith, ok.few_vertices) in
-    get_or-take n c.owners.result v None (omega arith)
-    ∙ c.owners.ensures v few
-    ∙ owning_is s ok v (has (at c.own_vertices-own.result v)) (λ p. c.own_vertices-own.ensures p v few))
-    (c.roots-self.ensures
-    ∙ ap (λ m. roots_in owners m b) (long ∙ all_vertices)
-    ∙ ap (roots_in owners s.vertices) all_boards)
+    ∙ ap (λ m. number_in kept m p v) vertices)
+    (owners_are s ok owners n vertices own.result own.ensures c.owners.ensures)
+    (roots_are s ok owners n vertices b roots c.boards-boards.ensures (omega arith) c.roots-roots.ensures)
