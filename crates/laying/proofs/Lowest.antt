@@ -6,10 +6,12 @@ use Rattle.std.specs.Option.{option_or}
 use Rattle.std.proofs.lemmas.Bool.{cases_Bool, cases_eq, cases_lt, cond-true, cond-false, lt-ltb, le-ltb, ne_eqb}
 use Rattle.std.proofs.lemmas.Bool.{false≢true}
 use Rattle.std.proofs.lemmas.Bool.Decides.{nat_tests}
-use Rattle.forest.specs.Forest.{lowest}
-use Rattle.forest.proofs.Lowest.{lowest_passes, lowest_first}
+use Rattle.scene.specs.Cells.{Scene, Sound}
+use Rattle.forest.specs.Forest.{lowest, owns_cell_on}
+use Rattle.forest.proofs.Lowest.{lowest_passes, lowest_first, lowest_same}
+use Rattle.forest.proofs.Owner.{owning_below}
 use Rattle.laying.specs.Rows.{passes}
-use Rattle.laying.specs.Tables.{lowest_below}
+use Rattle.laying.specs.Tables.{lowest_below, owning}
 
 -- below n the lowest number that passes is the one that there is
 pub lowest_is : (t : ℕ → Bool) (n q : ℕ) → q < n → eqb (lowest t n) q ≡ passes (λ o. eqb o q) (lowest_below t n)
@@ -63,3 +65,12 @@ lowest_found t n k h here none =
       | inr l ↦ omega arith
     ] in
     cond-true (ltb (lowest t n) n) (Some (lowest t n)) None (lt-ltb (lowest t n) n below) ∙ ap Some is
+
+-- the lowest of the boards that own a cell on a vertex, among eight or among the scene's
+pub owning_is : (s : Scene) → Sound s → (v : ℕ) (t : ℕ → Bool) → ((p : ℕ) → t p ≡ owns_cell_on s p v)
+    → lowest_below t 8 ≡ owning s v
+owning_is s ok v t is =
+    lowest_further t s.boards 8 ok.few_boards (λ p e. owning_below s ok p v (sym (is p) ∙ e))
+    ∙ ap
+    (λ k. cond (ltb k s.boards) (Some k) None)
+    (lowest_same t (λ p. owns_cell_on s p v) s.boards (λ p l. is p))

@@ -1,5 +1,5 @@
 -- Right tables say the scene's copies and edges.
-use Rattle.std.proofs.Common.{◌≡◌, ℕ, ◌<◌, ◌≤◌, Bool, cond, not, ◌&&◌, eqb, ltb, List, map, length, get_or, Some, None}
+use Rattle.std.proofs.Common.{◌≡◌, ℕ, ◌<◌, ◌≤◌, Bool, not, ◌&&◌, eqb, List, map, length, get_or, None}
 use Rattle.std.proofs.Common.{Option, take, sym, ap, ◌∙◌, arith}
 use mathlib.Core.Bool.{and_assoc}
 use Rattle.std.specs.List.{flat_map}
@@ -8,39 +8,23 @@ use Rattle.std.proofs.lemmas.List.Folds.{flat_map-map}
 use Rattle.scene.specs.Cells.{Scene, Sound}
 use Rattle.forest.specs.Forest.{owns_cell_on, keeps, owner, laid_copies, copies_of, copies_before, number, ghost_of}
 use Rattle.forest.specs.Forest.{edge_to, edges_to, edges_of}
-use Rattle.forest.proofs.Lowest.{lowest_same}
-use Rattle.forest.proofs.Owner.{owning_below}
 use Rattle.laying.specs.declared.root.Root.{Root}
 use Rattle.laying.specs.declared.board_set.BoardSet.{BoardSet}
 use Rattle.laying.specs.BoardSets.{has, at, TellsAll}
 use Rattle.laying.specs.Right.{Right}
 use Rattle.laying.specs.Rows.{Tells, Holds, flag, passes, only}
-use Rattle.laying.specs.Tables.{lowest_below, owning, row, copy_record, copy_at, board_copies, copies_in, number_in}
+use Rattle.laying.specs.Tables.{owning, row, copy_record, copy_at, board_copies, copies_in, number_in}
 use Rattle.laying.specs.Tables.{root_copy, root_at, row_roots, roots_in, ghost_in, edge_record, edge_at, board_edges}
 use Rattle.laying.proofs.Counts.{joined_gathered, gathered_same, picked, counted, many_same}
 use Rattle.laying.proofs.Joined.{joined_all, joined_only}
 use Rattle.laying.proofs.Sizes.{rows_taken}
-use Rattle.laying.proofs.Lowest.{lowest_is, lowest_further}
-
--- the lowest of the boards that own a cell on a vertex, among eight or among the scene's
-pub owning_is : (s : Scene) → Sound s → (v : ℕ) (t : ℕ → Bool) → ((p : ℕ) → t p ≡ owns_cell_on s p v)
-    → lowest_below t 8 ≡ owning s v
-owning_is s ok v t is =
-    lowest_further t s.boards 8 ok.few_boards (λ p e. owning_below s ok p v (sym (is p) ∙ e))
-    ∙ ap
-    (λ k. cond (ltb k s.boards) (Some k) None)
-    (lowest_same t (λ p. owns_cell_on s p v) s.boards (λ p l. is p))
+use Rattle.laying.proofs.Lowest.{lowest_is}
 
 -- the owners of a scene's vertices, and its roots, from longer tables
 module _ (s : Scene) (ok : Sound s) (owners : List (Option ℕ)) (n : ℕ) (vertices : n ≡ s.vertices) where
-  pub owners_are : (sets : List BoardSet) → TellsAll sets 1024 (owns_cell_on s)
-      → ((v : ℕ) → v < 1024 → get_or owners v None ≡ lowest_below (has (at sets v)) 8)
+  pub owners_are : ((v : ℕ) → v < 1024 → get_or owners v None ≡ owning s v)
       → (v : ℕ) → v < s.vertices → get_or (take n owners) v None ≡ owning s v
-  owners_are sets own low v l =
-      let few : v < 1024 = omega (arith, ok.few_vertices) in
-      get_or-take n owners v None (omega arith)
-      ∙ low v few
-      ∙ owning_is s ok v (has (at sets v)) (λ p. own p v few)
+  owners_are own v l = get_or-take n owners v None (omega arith) ∙ own v (omega (arith, ok.few_vertices))
 
   pub roots_are : (b : ℕ) (roots : List Root) → b ≡ s.boards → length owners ≡ 1024
       → map root_copy roots ≡ roots_in (take n owners) (length (take n owners)) b

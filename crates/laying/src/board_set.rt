@@ -16,6 +16,7 @@ impl BoardSet {
     }
 
     // Board p alone.
+    #[tactic(auto, using(crate::proofs::BoardSets::bit_only))]
     pub(crate) fn only(p: usize) -> BoardSet
         requires { p < 8 }
         ensures { (q : ℕ) → has result q ≡ nat_eq p q }
@@ -23,6 +24,7 @@ impl BoardSet {
         BoardSet { bits: 1 << p }
     }
 
+    #[tactic(auto, using(element::specs::Bitwise::or_bit))]
     pub(crate) fn union(self, other: BoardSet) -> BoardSet
         ensures { (p : ℕ) → has result p ≡ (has self p || has other p) }
     {
@@ -31,6 +33,7 @@ impl BoardSet {
         }
     }
 
+    #[tactic(auto, using(crate::proofs::BoardSets::bit_tested))]
     pub(crate) fn has(self, p: usize) -> bool
         requires { p < 8 }
         ensures { result ≡ has self p }
@@ -39,6 +42,7 @@ impl BoardSet {
     }
 
     // The lowest board in the set, if there is one.
+    #[tactic(auto, using(crate::proofs::BoardSets::lowest_bit))]
     pub(crate) fn lowest(self) -> Option<u8>
         ensures { result ≡ lowest_below (has self) 8 }
     {

@@ -52,9 +52,10 @@ impl Tables {
         let read = corners(scene);
         let cells = &read[..scene.cells()];
         let own = own_vertices(scene, cells);
-        flag_all(&keepers(scene, cells, &own), &mut self.kept);
+        let near = keepers(scene, cells, &own);
+        flag_all(&near, &mut self.kept);
         let copies = number_all(&self.kept[..boards], vertices, &mut self.numbers);
-        let roots = roots(&owners(&own)[..vertices], boards);
+        let roots = roots(&owners(scene, &own)[..vertices], boards);
         let edges = copies - roots.len();
         self.roots = roots;
         self.boards = boards;

@@ -7,4 +7,4 @@ use Rattle.laying.proofs.owners.owners.Given as goal
 abbrev pub invariant-loop-v : goal.invariant-loop-v
 invariant-loop-v l =
     (length l.owner-items ≡ 1024)
-    × ((k : ℕ) → k < l.v → get_or l.owner-items k None ≡ lowest_below (has (at l.sets k)) 8)
+    × ((k : ℕ) → k < l.v → get_or l.owner-items k None ≡ lowest_below (has (at l.own k)) 8)

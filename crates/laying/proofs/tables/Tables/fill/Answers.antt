@@ -31,8 +31,8 @@ own_vertices-own-requires c =
       each = λ k h. get_or-take n all k [] (omega (arith, c.cells.ensures)) ∙ c.corners-read.ensures k h;
     }
 
-pub keepers-requires-clause-read : goal.keepers-requires-clause-read
-keepers-requires-clause-read c =
+pub keepers-near-requires-clause-read : goal.keepers-near-requires-clause-read
+keepers-near-requires-clause-read c =
     let n = c.cells.result in
     let all = c.corners-read.result in
     let few = (view_sound c.args.scene.now).few_cells in
@@ -52,14 +52,13 @@ overflow_sub-edges c =
     let vertices = c.vertices-vertices.ensures in
     let owners = c.owners.result in
     let roots = c.roots-roots.result.items in
-    let own = c.own_vertices-own in
     let size : length (take b kept) ≡ b = omega (arith, length-take b kept, ok.few_boards) in
-    let rows = rows_are s ok kept c.keepers.result c.flag_all.ensures c.keepers.ensures in
+    let rows = rows_are s ok kept c.keepers-near.result c.flag_all.ensures c.keepers-near.ensures in
     let below : c.len.result ≤ c.number_all-copies.result = omega (
       arith,
       copies_counted s ok kept rows b n _ boards vertices size c.number_all-copies.ensures.count,
       counted s ok (take n owners)
-      (owners_are s ok owners n vertices own.result own.ensures c.owners.ensures) roots
+      (owners_are s ok owners n vertices c.owners.ensures) roots
       (roots_are s ok owners n vertices b roots boards (omega arith) c.roots-roots.ensures),
       c.len.ensures.value,
     ) in
@@ -72,7 +71,7 @@ returns-clause-copies c =
     let kept = c.flag_all.new.rows in
     let b = c.boards-boards.result in
     let size : length (take b kept) ≡ b = omega (arith, length-take b kept, ok.few_boards) in
-    let rows = rows_are s ok kept c.keepers.result c.flag_all.ensures c.keepers.ensures in
+    let rows = rows_are s ok kept c.keepers-near.result c.flag_all.ensures c.keepers-near.ensures in
     copies_counted s ok kept rows b c.vertices-vertices.result _ c.boards-boards.ensures
     c.vertices-vertices.ensures size c.number_all-copies.ensures.count
 
@@ -87,14 +86,13 @@ returns-clause-edges c =
     let vertices = c.vertices-vertices.ensures in
     let owners = c.owners.result in
     let roots = c.roots-roots.result.items in
-    let own = c.own_vertices-own in
     let size : length (take b kept) ≡ b = omega (arith, length-take b kept, ok.few_boards) in
-    let rows = rows_are s ok kept c.keepers.result c.flag_all.ensures c.keepers.ensures in
+    let rows = rows_are s ok kept c.keepers-near.result c.flag_all.ensures c.keepers-near.ensures in
     omega (
       arith,
       copies_counted s ok kept rows b n _ boards vertices size c.number_all-copies.ensures.count,
       counted s ok (take n owners)
-      (owners_are s ok owners n vertices own.result own.ensures c.owners.ensures) roots
+      (owners_are s ok owners n vertices c.owners.ensures) roots
       (roots_are s ok owners n vertices b roots boards (omega arith) c.roots-roots.ensures),
       c.len.ensures.value,
     )
@@ -109,13 +107,12 @@ returns-clause-right c =
     let vertices = c.vertices-vertices.ensures in
     let owners = c.owners.result in
     let roots = c.roots-roots.result.items in
-    let own = c.own_vertices-own in
     let rows : length (take b kept) ≡ b = omega (arith, length-take b kept, ok.few_boards) in
-    tables_right s ok kept (rows_are s ok kept c.keepers.result c.flag_all.ensures c.keepers.ensures)
+    tables_right s ok kept (rows_are s ok kept c.keepers-near.result c.flag_all.ensures c.keepers-near.ensures)
     c.number_all-copies.new.numbers (take n owners) roots
     (λ p h v l.
     c.number_all-copies.ensures.held p (omega arith) v (omega arith)
     ∙ number_taken kept b n p v (omega arith)
     ∙ ap (λ m. number_in kept m p v) vertices)
-    (owners_are s ok owners n vertices own.result own.ensures c.owners.ensures)
+    (owners_are s ok owners n vertices c.owners.ensures)
     (roots_are s ok owners n vertices b roots c.boards-boards.ensures (omega arith) c.roots-roots.ensures)
