@@ -1,6 +1,8 @@
 -- The cells that a view shows: their boards, and their corners one by one.
-use Rattle.std.proofs.Common.{◌≡◌, ℕ, ◌<◌, List, [], ◌∷◌, length, get_or, Some, sym, refl, subst, arith}
+use Rattle.std.proofs.Common.{◌≡◌, ℕ, ◌<◌, List, [], ◌∷◌, length, get_or, take, Some, sym, refl, subst, ◌∙◌}
+use Rattle.std.proofs.Common.{arith}
 use Rattle.std.specs.List.{AllByRecursion}
+use Rattle.std.proofs.lemmas.List.{get_or-take, length-take}
 use Rattle.std.proofs.ByRecursion.{All-get_or, All-weaker}
 use Rattle.scene.specs.Read.{no_cell, corner_of}
 use Rattle.scene.specs.Views.{viewed}
@@ -48,7 +50,19 @@ module _ (v : SceneView) (c : ℕ) (h : c < length (viewed v).cells) where
   corner_there k l = corner_some (viewed v) c h k (omega (arith, corners_three))
 
   pub corner_low : (k : ℕ) → k < 3 → get_or (cell_at (viewed v).cells c).corners k 0 < 1024
-  corner_low k l = All-get_or (λ x. x < 1024) (cell_at (viewed v).cells c).corners k 0 (omega (arith, corners_three)) corners_low
+  corner_low k l =
+      let corners = (cell_at (viewed v).cells c).corners in
+      All-get_or (λ x. x < 1024) corners k 0 (omega (arith, corners_three)) corners_low
+
+-- the rows of a longer table, as many as there are cells
+pub read_from : (v : SceneView) (table : List (List ℕ)) (n : ℕ) → n ≡ length (viewed v).cells → length table ≡ 1024
+    → ((c : ℕ) → c < length (viewed v).cells → row table c ≡ (cell_at (viewed v).cells c).corners)
+    → ReadFrom (viewed v) (take n table)
+read_from v table n is long each =
+    record {
+      all = omega (arith, length-take n table, (view_sound v).few_cells);
+      each = λ c h. get_or-take n table c [] (omega arith) ∙ each c h;
+    }
 
 -- the vertices of a table that was read are low
 pub read_low : (v : SceneView) (corners : List (List ℕ)) → ReadFrom (viewed v) corners → (c : ℕ)

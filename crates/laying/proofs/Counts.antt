@@ -1,9 +1,8 @@
 -- Lists over the numbers below n, gathered number by number.
 use Rattle.std.proofs.Common.{◌≡◌, ℕ, zero, suc, ◌+◌, ◌<◌, Bool, true, false, cond, List, [], ◌∷◌, ◌++◌, map, length}
-use Rattle.std.proofs.Common.{filter, sum_by, sym, refl, ap, ◌∙◌, zero-add, add-one, arith}
+use Rattle.std.proofs.Common.{filter, sym, refl, ap, ◌∙◌, zero-add, add-one, arith}
 use mir.Val.{bool_byte}
 use Rattle.std.specs.List.{range_with_len, flat_map}
-use Rattle.std.proofs.lemmas.List.Concat.{length-flat_map}
 use Rattle.std.proofs.lemmas.List.FromFn.{map-range_with_len_more}
 use Rattle.std.proofs.lemmas.List.Elements.{filter-append}
 use Rattle.std.proofs.lemmas.List.{map-id, map-append, flat_map_more, length-map}
@@ -57,8 +56,3 @@ many_same t u zero h = refl
 many_same t u (suc n) h =
     ap (λ m. m + bool_byte (t n)) (many_same t u n (λ k l. h k (omega arith)))
     ∙ ap (λ b. many u n + bool_byte b) (h n (omega arith))
-
--- the lengths of the lists of the numbers below n
-pub lengths_summed : {X : Type 0} (f : ℕ → List X) (n : ℕ)
-    → sum_by (λ k. length (f k)) (range_with_len 0 n) ≡ length (gathered f n)
-lengths_summed f n = sym (length-flat_map f (range_with_len 0 n)) ∙ ap length (joined_gathered f n)

@@ -1,12 +1,11 @@
 -- The lists of the elements of a list, joined.
-use Rattle.std.proofs.Common.{◌≡◌, ℕ, zero, suc, ◌+◌, ◌<◌, ◌≤◌, Bool, true, false, cond, ◌&&◌, List, [], ◌++◌, length}
-use Rattle.std.proofs.Common.{count_by, get_or, take, sym, refl, ap, ◌∙◌, arith}
+use Rattle.std.proofs.Common.{◌≡◌, ℕ, zero, suc, ◌+◌, ◌<◌, ◌≤◌, Bool, true, false, ◌&&◌, List, [], ◌++◌, length}
+use Rattle.std.proofs.Common.{get_or, take, sym, refl, ap, ◌∙◌, arith}
 use Rattle.std.specs.List.{flat_map}
 use Rattle.std.proofs.Math.Bool.{and-true, and-false}
 use Rattle.std.proofs.lemmas.Grind.{flat_map-append}
 use Rattle.std.proofs.lemmas.List.{append-nil, take_more, flat_map_more}
 use Rattle.std.proofs.lemmas.List.Folds.{length-flat_map-take}
-use Rattle.std.proofs.lemmas.List.Recursion.{is_count_by}
 use Rattle.laying.specs.Rows.{gathered, only}
 
 module _ {X Y : Type 0} where
@@ -22,16 +21,6 @@ module _ {X Y : Type 0} where
       → flat_map (λ z. only (t z) (f z)) (only b x) ≡ only (t x && b) (f x)
   joined_only t f true x = append-nil (only (t x) (f x)) ∙ ap (λ b. only b (f x)) (sym (and-true (t x)))
   joined_only t f false x = ap (λ b. only b (f x)) (sym (and-false (t x)))
-
-  -- as many as pass
-  pub length_passed : (t : X → Bool) (f : X → Y) (xs : List X)
-      → length (flat_map (λ z. only (t z) (f z)) xs) ≡ count_by t xs
-  length_passed t f =
-      is_count_by (λ xs. length (flat_map (λ z. only (t z) (f z)) xs)) t refl (λ x xs. one (t x) (f x) _)
-    where
-      one : (b : Bool) (y : Y) (ys : List Y) → length (only b y ++ ys) ≡ cond b (1 + length ys) (length ys)
-      one true y ys = omega arith
-      one false y ys = refl
 
   -- the list of the element at place i follows
   module _ (f : X → List Y) (xs : List X) (i : ℕ) (x : X) (h : i < length xs) (is : x ≡ get_or xs i x) where

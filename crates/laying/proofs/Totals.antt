@@ -102,7 +102,7 @@ module _ (s : Scene) (ok : Sound s) where
           ap length (picked (copy_record p) (keeps s p) s.vertices),
           length_only (keeps s p) (copy_record p) s.vertices,
           many_split (keeps s p) (λ v. keeps s p v && not (eqb p (owner s v))) (λ v. eqb (owner s v) p) s.vertices
-          (λ v l. ghost_or_root p v h),
+              (λ v l. ghost_or_root p v h),
           ghosts_of p,
           roots_of p h,
         )
@@ -117,11 +117,11 @@ module _ (s : Scene) (ok : Sound s) where
           ap (λ l. length (filter (is_ghost s) l)) (joined_gathered (copies_of s) s.boards),
           ap length (filter_gathered (is_ghost s) (copies_of s) s.boards),
           lengths_split
-          (copies_of s)
-          (λ p. filter (is_ghost s) (copies_of s p))
-          (row_roots owners s.vertices)
-          s.boards
-          copies_split,
+              (copies_of s)
+              (λ p. filter (is_ghost s) (copies_of s p))
+              (row_roots owners s.vertices)
+              s.boards
+              copies_split,
           length-map roots root_copy,
           ap length all,
         )

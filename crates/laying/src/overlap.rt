@@ -39,7 +39,7 @@ fn mark<F: Fn(usize) -> BoardSet>(corners: &[[u16; 3]], boards: F) -> [BoardSet;
     requires low { (c : ℕ) → c < length corners.now → AllByRecursion (λ v. v < 1024) (row corners.now c) }
     ensures { (t : ℕ → ℕ → Bool)
         → ((c : ℕ) (found : BoardSet) → c < length corners.now → F.post boards c found
-            → (p : ℕ) → has found p ≡ t p c)
+        → (p : ℕ) → has found p ≡ t p c)
         → TellsAll result 1024
         (λ p v. some (λ c. t p c && any (λ x. nat_eq x v) (row corners.now c)) (length corners.now)) }
 {
@@ -86,14 +86,18 @@ fn spread(corners: &[[u16; 3]], near: &[BoardSet; 1024]) -> [BoardSet; 1024]
     requires { (c : ℕ) → c < length corners.now → AllByRecursion (λ v. v < 1024) (row corners.now c) }
     ensures { TellsAll result 1024
         (λ p v. some (λ c. any (λ x. has (at near.now x) p) (row corners.now c)
-            && any (λ x. nat_eq x v) (row corners.now c))
+        && any (λ x. nat_eq x v) (row corners.now c))
         (length corners.now)) }
 {
     mark(corners, |c| at_corners(&corners[c], near))
 }
 
 // For each vertex the boards that keep a copy of it.
-pub(crate) fn keepers(scene: &SceneView, corners: &[[u16; 3]], owners: &[BoardSet; 1024]) -> [BoardSet; 1024]
+pub(crate) fn keepers(
+    scene: &SceneView,
+    corners: &[[u16; 3]],
+    owners: &[BoardSet; 1024],
+) -> [BoardSet; 1024]
     requires read { ReadFrom (viewed scene.now) corners.now }
     requires own { TellsAll owners.now 1024 (owns_cell_on (viewed scene.now)) }
     ensures { TellsAll result 1024 (keeps (viewed scene.now)) }

@@ -18,8 +18,8 @@ loop-c-preserved c =
     let P : ℕ → List ℕ → Type 0 = λ k xs. xs ≡ (cell_of c.args.scene.now k).corners in (
       length-set corners n here ∙ inv.0,
       filled_more P corners n here []
-      (omega (arith, inv.0, c.cells-c-end.ensures, (view_sound c.args.scene.now).few_cells)) inv.1
-      c.cell_corners.ensures,
+          (omega (arith, inv.0, c.cells-c-end.ensures, (view_sound c.args.scene.now).few_cells)) inv.1
+          c.cell_corners.ensures,
     )
 
 pub offset_bounds-corners-c : goal.offset_bounds-corners-c

@@ -1,9 +1,10 @@
--- Boards and vertices are few, and right rows, numbers and roots say the scene's copies and edges.
-use Rattle.std.proofs.Common.{◌≡◌, ◌≤◌, rules, [], take, length, ap, ◌∙◌, arith}
-use Rattle.std.proofs.lemmas.List.{get_or-take, length-take}
+-- Right rows, numbers and roots say the scene's copies and edges, and how many there are.
+use Rattle.std.proofs.Common.{◌≡◌, ◌≤◌, rules, take, length, ap, ◌∙◌, arith}
+use Rattle.std.proofs.lemmas.List.{length-take}
 use Rattle.scene.proofs.Viewing.{view_sound}
 use Rattle.scene.specs.Views.{viewed}
 use Rattle.laying.specs.Tables.{number_in}
+use Rattle.laying.proofs.Corners.{read_from}
 use Rattle.laying.proofs.Sizes.{number_taken}
 use Rattle.laying.proofs.Tied.{rows_are, copies_counted, owners_are, roots_are, tables_right}
 use Rattle.laying.proofs.Totals.{counted}
@@ -23,23 +24,11 @@ slice_bounds-cells-end c =
 
 pub own_vertices-own-requires : goal.own_vertices-own-requires
 own_vertices-own-requires c =
-    let n = c.cells.result in
-    let all = c.corners-read.result in
-    let few = (view_sound c.args.scene.now).few_cells in
-    record {
-      all = omega (arith, length-take n all, c.cells.ensures, few);
-      each = λ k h. get_or-take n all k [] (omega (arith, c.cells.ensures)) ∙ c.corners-read.ensures k h;
-    }
+    read_from c.args.scene.now c.corners-read.result c.cells.result c.cells.ensures (omega arith) c.corners-read.ensures
 
 pub keepers-near-requires-clause-read : goal.keepers-near-requires-clause-read
 keepers-near-requires-clause-read c =
-    let n = c.cells.result in
-    let all = c.corners-read.result in
-    let few = (view_sound c.args.scene.now).few_cells in
-    record {
-      all = omega (arith, length-take n all, c.cells.ensures, few);
-      each = λ k h. get_or-take n all k [] (omega (arith, c.cells.ensures)) ∙ c.corners-read.ensures k h;
-    }
+    read_from c.args.scene.now c.corners-read.result c.cells.result c.cells.ensures (omega arith) c.corners-read.ensures
 
 pub overflow_sub-edges : goal.overflow_sub-edges
 overflow_sub-edges c =
@@ -58,8 +47,8 @@ overflow_sub-edges c =
       arith,
       copies_counted s ok kept rows b n _ boards vertices size c.number_all-copies.ensures.count,
       counted s ok (take n owners)
-      (owners_are s ok owners n vertices c.owners.ensures) roots
-      (roots_are s ok owners n vertices b roots boards (omega arith) c.roots-roots.ensures),
+          (owners_are s ok owners n vertices c.owners.ensures) roots
+          (roots_are s ok owners n vertices b roots boards (omega arith) c.roots-roots.ensures),
       c.len.ensures.value,
     ) in
     search rules
@@ -92,8 +81,8 @@ returns-clause-edges c =
       arith,
       copies_counted s ok kept rows b n _ boards vertices size c.number_all-copies.ensures.count,
       counted s ok (take n owners)
-      (owners_are s ok owners n vertices c.owners.ensures) roots
-      (roots_are s ok owners n vertices b roots boards (omega arith) c.roots-roots.ensures),
+          (owners_are s ok owners n vertices c.owners.ensures) roots
+          (roots_are s ok owners n vertices b roots boards (omega arith) c.roots-roots.ensures),
       c.len.ensures.value,
     )
 
