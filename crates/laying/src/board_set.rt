@@ -1,5 +1,5 @@
 // A set of boards, one bit each.
-ghost use Rattle.std.specs.Prelude.{◌≡◌, ℕ, ◌<◌, ◌||◌, false, bit_or, nat_eq};
+ghost use Rattle.std.specs.Prelude.{◌≡◌, ℕ, ◌<◌, ◌||◌, false, nat_eq};
 ghost use Rattle.laying.specs.BoardSets.{has};
 ghost use Rattle.laying.specs.Tables.{lowest_below};
 

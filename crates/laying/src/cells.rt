@@ -12,10 +12,10 @@ fn vertex(scene: &SceneView, c: usize, k: usize) -> u16
     requires corner { k < 3 }
     ensures { result ≡ slice_index_or (cell_of scene.now c).corners k 0 }
 {
-    match scene.corner(c, k) {
-        Some(v) => v as u16,
-        None => 0,
-    }
+    let Some(v) = scene.corner(c, k) else {
+        unreachable!()
+    };
+    v as u16
 }
 
 // The vertices of cell number c.

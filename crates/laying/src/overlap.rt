@@ -55,10 +55,10 @@ fn own_board(scene: &SceneView, c: usize) -> BoardSet
     requires { c < length (viewed scene.now).cells }
     ensures { (p : ℕ) → has result p ≡ nat_eq (cell_of scene.now c).board p }
 {
-    match scene.cell_board(c) {
-        Some(p) => BoardSet::only(p),
-        None => BoardSet::none(),
-    }
+    let Some(p) = scene.cell_board(c) else {
+        unreachable!()
+    };
+    BoardSet::only(p)
 }
 
 // For each vertex the boards that own a cell on it.

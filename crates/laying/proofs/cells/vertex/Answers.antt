@@ -13,16 +13,16 @@ overflow_cast-result c =
     let small : c.in-Some.v < 65536 = omega (arith, corner_low v n c.requires.cell c.args.k c.requires.corner) in
     search rules
 
-pub returns-in-Some : goal.returns-in-Some
-returns-in-Some c =
+pub returns : goal.returns
+returns c =
     let v = c.args.scene.now in
     let n = c.args.c in
     let there = sym c.in-Some.is ∙ c.corner.ensures ∙ corner_there v n c.requires.cell c.args.k c.requires.corner in
     cc
 
-pub returns-in-None : goal.returns-in-None
-returns-in-None c =
+pub unreachable-requires : goal.unreachable-requires
+unreachable-requires c =
     let v = c.args.scene.now in
     let n = c.args.c in
-    let there = sym c.in-None.is ∙ c.corner.ensures ∙ corner_there v n c.requires.cell c.args.k c.requires.corner in
+    let there = sym c.in_default.is ∙ c.corner.ensures ∙ corner_there v n c.requires.cell c.args.k c.requires.corner in
     cc

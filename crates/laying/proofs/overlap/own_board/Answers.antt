@@ -14,8 +14,8 @@ only-requires c =
     let same : c.in-Some.p ≡ (cell_of v n).board = cc in
     omega (arith, board_low v n c.requires)
 
-pub returns-in-Some : goal.returns-in-Some
-returns-in-Some c =
+pub returns : goal.returns
+returns c =
     λ q.
     let v = c.args.scene.now in
     let n = c.args.c in
@@ -23,8 +23,9 @@ returns-in-Some c =
     let same : c.in-Some.p ≡ (cell_of v n).board = cc in
     c.only.ensures q ∙ ap (λ b. eqb b q) same
 
-pub returns-in-None : goal.returns-in-None
-returns-in-None c =
-    λ q.
-    let there = sym c.in-None.is ∙ c.cell_board.ensures ∙ board_some (viewed c.args.scene.now) c.args.c c.requires in
+pub unreachable-requires : goal.unreachable-requires
+unreachable-requires c =
+    let there =
+    sym c.in_default.is ∙ c.cell_board.ensures ∙ board_some (viewed c.args.scene.now) c.args.c c.requires
+    in
     cc
