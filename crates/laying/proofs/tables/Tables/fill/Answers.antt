@@ -53,6 +53,14 @@ overflow_sub-edges c =
     ) in
     search rules
 
+pub invariant_of-self : goal.invariant_of-self
+invariant_of-self c =
+    let ok = view_sound c.args.scene.now in
+    record {
+      few = omega (arith, c.boards-boards.ensures, ok.few_boards);
+      small = omega (arith, c.vertices-vertices.ensures, ok.few_vertices);
+    }
+
 pub returns-clause-copies : goal.returns-clause-copies
 returns-clause-copies c =
     let s = viewed c.args.scene.now in
