@@ -73,6 +73,10 @@ corners_of b = 3
 abbrev pub scene_of : List ℕ → Scene
 scene_of b = scene_with (corners_of b) b
 
+-- where the end stands, behind the last cell
+abbrev pub end_at : List ℕ → ℕ
+end_at b = cell_place (corners_of b) (number_at b 8)
+
 -- where cell number c begins, if the header counts so many
 abbrev pub start_of : List ℕ → ℕ → Option ℕ
 start_of b c = cond (nat_lt c (number_at b 8)) (Some (cell_place (corners_of b) c)) None

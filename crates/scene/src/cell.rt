@@ -1,7 +1,7 @@
 // Checks the record of one cell.
-ghost use Rattle.std.specs.Prelude.{◌≡◌, ◌*◌, ◌<◌};
+ghost use Rattle.std.specs.Prelude.{◌≡◌, ◌+◌, ◌*◌, ◌<◌, ◌≤◌, length};
 ghost use Rattle.std.specs.List.{range_with_len, flat_map};
-ghost use Rattle.scene.specs.Layout.{cell_place};
+ghost use Rattle.scene.specs.Layout.{cell_place, cell_size};
 ghost use Rattle.scene.specs.Rules.{verdict, start_rules, corner_rule, pair_rule, pair_rules, word_rule, cell_rules};
 
 use crate::bytes::{byte_at, is_marked};
@@ -9,7 +9,7 @@ use crate::fault::RecordFault;
 use crate::head::Head;
 use crate::loops::first_fault;
 use crate::marks;
-use crate::record::{CellRecord, cell_size};
+use crate::record::{CellRecord, cell_place, cell_size};
 
 // A cell's record, and what the header says of it.
 #[derive(Clone, Copy)]
@@ -21,7 +21,8 @@ pub(crate) struct CellCheck<'a> {
 
 impl<'a> CellCheck<'a> {
     // Of cell number n.
-    pub(crate) fn new(bytes: &'a [u8], head: Head, n: u16) -> CellCheck<'a>
+    fn new(bytes: &'a [u8], head: Head, n: u16) -> CellCheck<'a>
+        requires { cell_place head.corners n + cell_size head.corners ≤ length bytes.now }
         ensures { (result.cell.bytes.now ≡ bytes.now)
             × (result.cell.at ≡ cell_place head.corners n)
             × (result.head ≡ head) }
@@ -32,14 +33,11 @@ impl<'a> CellCheck<'a> {
         }
     }
 
-    // Length, mark, board and zero byte.
+    // Mark, board and zero byte: that the bytes are there was checked before there was a record.
     fn start(&self) -> Result<(), RecordFault>
         ensures { result ≡ verdict (start_rules self.now.head self.now.cell.bytes.now self.now.cell.at) }
     {
-        let CellRecord { bytes, at, corners } = self.cell;
-        if bytes.len() < at + cell_size(corners) {
-            return Err(RecordFault::Short { place: at });
-        }
+        let CellRecord { bytes, at, .. } = self.cell;
         if !is_marked(bytes, at, marks::CELL) {
             return Err(RecordFault::Mark { place: at });
         }
@@ -53,6 +51,7 @@ impl<'a> CellCheck<'a> {
     }
 
     fn corner(&self, i: u16) -> Result<(), RecordFault>
+        requires { i < self.now.head.corners }
         ensures { result ≡ verdict (corner_rule self.now.head self.now.cell.bytes.now self.now.cell.at i) }
     {
         if self.cell.corner(i) >= self.head.vertices {
@@ -65,6 +64,7 @@ impl<'a> CellCheck<'a> {
 
     // The place of a pair of equal corners is the later one's.
     fn pair(&self, i: u16, j: u16) -> Result<(), RecordFault>
+        requires { (i < self.now.head.corners) × (j < self.now.head.corners) }
         ensures { result ≡ verdict (pair_rule self.now.cell.bytes.now self.now.cell.at i j) }
     {
         if self.cell.corner(i) == self.cell.corner(j) {
@@ -86,6 +86,7 @@ impl<'a> CellCheck<'a> {
 
     // Word number w of the contributions is zero if it is past the used ones of its corner.
     fn word(&self, w: u16) -> Result<(), RecordFault>
+        requires { w < 3 * self.now.head.corners }
         ensures { result ≡ verdict (word_rule self.now.head self.now.cell.bytes.now self.now.cell.at w) }
     {
         if usize::from(w % 3) >= self.head.used && self.cell.word(w) != 0 {
@@ -120,7 +121,7 @@ impl<'a> CellCheck<'a> {
         first_fault(0..3 * u16::from(self.head.corners), |w| self.word(w))
     }
 
-    pub(crate) fn all(&self) -> Result<(), RecordFault>
+    fn all(&self) -> Result<(), RecordFault>
         ensures { result ≡ verdict (cell_rules self.now.head self.now.cell.bytes.now self.now.cell.at) }
     {
         self.start()?;
@@ -128,4 +129,15 @@ impl<'a> CellCheck<'a> {
         self.apart()?;
         self.words()
     }
+}
+
+// All rules of cell number n: first that its bytes are there.
+pub(crate) fn check_cell(bytes: &[u8], head: Head, n: u16) -> Result<(), RecordFault>
+    ensures { result ≡ verdict (cell_rules head bytes.now (cell_place head.corners n)) }
+{
+    let at = cell_place(head.corners, n);
+    if bytes.len() < at + cell_size(head.corners) {
+        return Err(RecordFault::Short { place: at });
+    }
+    CellCheck::new(bytes, head, n).all()
 }

@@ -1,24 +1,24 @@
 // Checks the records of a scene in file order.
-ghost use Rattle.std.specs.Prelude.{◌≡◌, ◌^◌, ◌<◌, ◌≤◌, is_ok, Decides, Ok, Err};
+ghost use Rattle.std.specs.Prelude.{◌≡◌, ◌+◌, ◌^◌, ◌<◌, ◌≤◌, length, true, is_ok, Decides, Ok, Err};
 ghost use Rattle.std.specs.List.{range_with_len, flat_map};
 ghost use Rattle.scene.specs.declared.fault.RecordFault.TheVariants.{Header};
-ghost use Rattle.scene.specs.Layout.{number_at};
+ghost use Rattle.scene.specs.Layout.{number_at, end_at};
 ghost use Rattle.scene.specs.Written.{Written, ReadsBack};
 ghost use Rattle.scene.specs.Rules.{verdict, head_of, header_rules, end_rules, cell_record, body_rules};
 ghost use Rattle.scene.specs.Rules.{scene_rules, broken, admits};
 
 use crate::bytes::{byte_at, is_marked, number_at};
-use crate::cell::CellCheck;
+use crate::cell::check_cell;
 use crate::fault::{Broken, RecordFault, SceneFault};
 use crate::head::{CORNERS, Head};
 use crate::loops::first_fault;
 use crate::marks;
-use crate::record::CellRecord;
+use crate::record::cell_place;
 use element::kind::Kind;
 
 // How many vertices or cells there are.
 fn read_count(bytes: &[u8], at: usize) -> Result<u16, RecordFault>
-    requires { at < 2 ^ 31 }
+    requires { at + 1 < length bytes.now }
     ensures { elim result [
       | Ok count ↦ (count ≡ number_at bytes.now at) × (count ≤ 1024)
       | Err fault ↦ (fault ≡ Header at) × (1024 < number_at bytes.now at)
@@ -96,8 +96,7 @@ fn in_record<T>(number: usize, found: Result<T, RecordFault>) -> Result<T, Broke
 fn check_record(bytes: &[u8], head: Head, n: u16) -> Result<(), SceneFault>
     ensures { result ≡ verdict (cell_record head bytes.now n) }
 {
-    let cell = CellCheck::new(bytes, head, n);
-    in_record(usize::from(n) + 1, cell.all())?;
+    in_record(usize::from(n) + 1, check_cell(bytes, head, n))?;
     Ok(())
 }
 
@@ -112,8 +111,8 @@ fn check_body(bytes: &[u8], head: Head) -> Result<(), SceneFault>
     ensures { result ≡ verdict (body_rules head bytes.now) }
 {
     check_cells(bytes, head)?;
-    let end = CellRecord::new(bytes, head.corners, head.cells);
-    in_record(usize::from(head.cells) + 1, check_end(bytes, end.at))?;
+    let at = cell_place(head.corners, head.cells);
+    in_record(usize::from(head.cells) + 1, check_end(bytes, at))?;
     Ok(())
 }
 
@@ -124,12 +123,13 @@ fn check_records(bytes: &[u8]) -> Result<(), SceneFault>
     check_body(bytes, head)
 }
 
-// Whether bytes are a scene, or else the first rule that they break.
+// Whether bytes are a scene, or else the first rule that they break. A scene's bytes reach to its end.
 pub(crate) fn check(bytes: &[u8]) -> Result<(), SceneFault>
     ensures answer { result ≡ verdict (scene_rules bytes.now) }
     ensures exact { admits bytes.now ≡ is_ok result }
     ensures meaning { Decides (is_ok result) (Written bytes.now) }
     ensures back { ReadsBack bytes.now }
+    ensures long { is_ok result ≡ true → end_at bytes.now + 2 ≤ length bytes.now }
 {
     check_records(bytes)
 }

@@ -23,7 +23,7 @@ returns-in_err-in_record c =
     let bad = c.in_err-in_record in
     let r = c.from_residual-in_err-in_record in
     let rules = end_rules b (cell_place h.corners h.cells) in
-    let is = c.check_end.ensures ∙ ap (λ at. verdict (end_rules b at)) c.new-end.ensures.1 in
+    let is = c.check_end.ensures ∙ ap (λ at. verdict (end_rules b at)) c.cell_place-at.ensures.place in
     exit_is r.result _ r.ensures.1
     ∙ record_stopped (h.cells + 1) rules c.check_end.result is bad.field-0.0
     (bad.ensures ∙ ap (λ k. broken (k + 1) c.check_end.result) c.from.ensures)
@@ -35,7 +35,7 @@ returns c =
     let h = c.args.head in
     let b = c.args.bytes.now in
     let rules = end_rules b (cell_place h.corners h.cells) in
-    let is = c.check_end.ensures ∙ ap (λ at. verdict (end_rules b at)) c.new-end.ensures.1 in
+    let is = c.check_end.ensures ∙ ap (λ at. verdict (end_rules b at)) c.cell_place-at.ensures.place in
     record_passed (h.cells + 1) rules c.check_end.result is
     (c.in_ok-in_record.ensures ∙ ap (λ k. broken (k + 1) c.check_end.result) c.from.ensures)
     ∙ past (flat_map (cell_record h b) (range_with_len 0 h.cells)) (in_record (h.cells + 1) rules)

@@ -1,7 +1,7 @@
 -- What the cell's rules come to, with the record's number.
 use Rattle.std.proofs.Common.{◌+◌, ap, ◌∙◌}
 use Rattle.scene.specs.Layout.{cell_place}
-use Rattle.scene.specs.Rules.{verdict, cell_rules, broken}
+use Rattle.scene.specs.Rules.{cell_rules, broken}
 use Rattle.scene.proofs.Verdicts.{exit_is, record_passed, record_stopped}
 use Rattle.scene.proofs.check.check_record.Goals as goal
 
@@ -11,26 +11,16 @@ returns-in_err-in_record c =
     let b = c.args.bytes.now in
     let n = c.args.n in
     let bad = c.in_err-in_record in
-    let cell = c.new-cell in
-    let is =
-    c.all.ensures
-    ∙ ap (λ x. verdict (cell_rules x cell.result.cell.bytes.now cell.result.cell.at)) cell.ensures.2
-    ∙ ap (λ x. verdict (cell_rules h x cell.result.cell.at)) cell.ensures.0
-    ∙ ap (λ at. verdict (cell_rules h b at)) cell.ensures.1 in
+    let cell = c.check_cell in
     exit_is c.from_residual.result _ c.from_residual.ensures.1
-    ∙ record_stopped (n + 1) (cell_rules h b (cell_place h.corners n)) c.all.result is bad.field-0.0
-    (bad.ensures ∙ ap (λ k. broken (k + 1) c.all.result) c.from.ensures)
+    ∙ record_stopped (n + 1) (cell_rules h b (cell_place h.corners n)) cell.result cell.ensures bad.field-0.0
+    (bad.ensures ∙ ap (λ k. broken (k + 1) cell.result) c.from.ensures)
 
 pub returns : goal.returns
 returns c =
     let h = c.args.head in
     let b = c.args.bytes.now in
     let n = c.args.n in
-    let cell = c.new-cell in
-    let is =
-    c.all.ensures
-    ∙ ap (λ x. verdict (cell_rules x cell.result.cell.bytes.now cell.result.cell.at)) cell.ensures.2
-    ∙ ap (λ x. verdict (cell_rules h x cell.result.cell.at)) cell.ensures.0
-    ∙ ap (λ at. verdict (cell_rules h b at)) cell.ensures.1 in
-    record_passed (n + 1) (cell_rules h b (cell_place h.corners n)) c.all.result is
-    (c.in_ok-in_record.ensures ∙ ap (λ k. broken (k + 1) c.all.result) c.from.ensures)
+    let cell = c.check_cell in
+    record_passed (n + 1) (cell_rules h b (cell_place h.corners n)) cell.result cell.ensures
+    (c.in_ok-in_record.ensures ∙ ap (λ k. broken (k + 1) cell.result) c.from.ensures)
