@@ -107,9 +107,10 @@ fn work_over<E: Element, M: Medium>(
     plan: &Plan,
     medium: fn() -> M,
 ) -> ([u128; 3], usize) {
+    let medium = medium();
     let (mut run, load) = timed(|| {
         let own_sums = sums::own_sums(black_box(scene), black_box(plan));
-        Run::<E, M>::start(plan, own_sums, medium())
+        Run::<E, M>::start(plan, own_sums, medium)
     });
     let ((), turns) = timed(|| black_box(&mut run).settle());
     let (_, list) = timed(|| listing::list(black_box(scene), black_box(&run)));
