@@ -1,7 +1,7 @@
 //! The list of all scenes. Each has a name of its family and number, drawn ones of their seed
 //! too, and can be made again from that name alone.
 
-use crate::damage::{self, FAMILIES, Recipe};
+use crate::damage::{self, Answer, FAMILIES, Recipe};
 use crate::surfaces::{self, SIZES, Shape};
 
 #[derive(Clone, Debug)]
@@ -82,6 +82,15 @@ impl Case {
             Source::Flipped(seed, number) => damage::flipped(*seed, *number),
             Source::Noise(seed, number) => damage::noise(*seed, *number),
         }
+    }
+
+    /// What the documents say of it, where the scene was made for that.
+    pub fn answer(&self) -> Option<Answer> {
+        match &self.source {
+            Source::Recipe(recipe) => Some(recipe.answer),
+            _ => None,
+        }
+        .filter(|answer| *answer != Answer::Open)
     }
 
     /// The case of this name, whether or not a list with the default amounts has it.

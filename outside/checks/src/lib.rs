@@ -4,6 +4,7 @@
 pub mod bytes;
 pub mod catalog;
 pub mod damage;
+pub mod outcome;
 pub mod programs;
 pub mod random;
 pub mod surfaces;

@@ -1,21 +1,23 @@
 //! Runs both proved programs on many scenes and compares what they print, byte for byte, with
-//! what the independent implementation says.
+//! what the independent implementation says, and with what the documents say where that is known.
 
 use std::collections::{BTreeMap, BTreeSet};
 use std::fmt::Display;
 use std::iter;
-use std::path::{Path, PathBuf};
+use std::path::PathBuf;
 use std::process::ExitCode;
 use std::str::FromStr;
 use std::sync::atomic::{AtomicUsize, Ordering};
+use std::sync::mpsc;
 use std::thread;
+use std::time::Duration;
 
-use checks::bytes::HEADER;
 use checks::catalog::{self, Amounts, Case};
-use checks::programs::{self, Difference, PROGRAMS, Verdict};
-use plain::Program;
+use checks::outcome::{self, Outcome, Proved};
+use checks::programs::{self, PROGRAMS, Verdict};
 
-const USAGE: &str = "compare [--seed N] [--valid N] [--flipped N] [--noise N] [--jobs N]
+const USAGE: &str =
+    "compare [--seed N] [--valid N] [--flipped N] [--noise N] [--jobs N] [--seconds N]
         [--halo PATH] [--halo-rough PATH]
         [--only NAME | --save NAME FILE]";
 
@@ -23,7 +25,7 @@ struct Options {
     seed: u64,
     amounts: Amounts,
     jobs: usize,
-    proved: [PathBuf; 2],
+    proved: Proved,
     only: Option<String>,
     save: Option<(String, PathBuf)>,
 }
@@ -39,7 +41,10 @@ impl Options {
                 noise: 300,
             },
             jobs: cores.min(4),
-            proved: PROGRAMS.map(programs::proved),
+            proved: Proved {
+                paths: PROGRAMS.map(programs::proved),
+                limit: Duration::from_secs(10),
+            },
             only: None,
             save: None,
         };
@@ -51,8 +56,9 @@ impl Options {
                 "--flipped" => options.amounts.flipped = number(&value()?)?,
                 "--noise" => options.amounts.noise = number(&value()?)?,
                 "--jobs" => options.jobs = number::<usize>(&value()?)?.max(1),
-                "--halo" => options.proved[0] = value()?.into(),
-                "--halo-rough" => options.proved[1] = value()?.into(),
+                "--seconds" => options.proved.limit = seconds(&value()?)?,
+                "--halo" => options.proved.paths[0] = value()?.into(),
+                "--halo-rough" => options.proved.paths[1] = value()?.into(),
                 "--only" => options.only = Some(value()?),
                 "--save" => options.save = Some((value()?, value()?.into())),
                 _ => return Err(format!("{option} is no option\n{USAGE}")),
@@ -67,68 +73,46 @@ fn number<T: FromStr>(text: &str) -> Result<T, String> {
         .map_err(|_| format!("{text} is no number here"))
 }
 
+fn seconds(text: &str) -> Result<Duration, String> {
+    let seconds: u32 = number(text)?;
+    Ok(Duration::from_secs(seconds.max(1).into()))
+}
+
 fn named(name: &str) -> Result<Case, String> {
     Case::named(name).ok_or(format!("no scene has the name {name}"))
 }
 
-/// How one program's output on one scene compares.
-#[derive(Clone, Debug)]
-enum Compared {
-    Same(Verdict),
-    Differs(Difference),
-    Failed(String),
-}
-
-fn compare(proved: &Path, program: Program, scene: &[u8]) -> Compared {
-    let printed = programs::output(proved, &[], scene);
-    let both = printed.and_then(|printed| Ok((printed, programs::listing(scene, program)?)));
-    match both {
-        Err(failure) => Compared::Failed(failure),
-        Ok((printed, listing)) => match programs::difference(&printed, &listing) {
-            Some(difference) => Compared::Differs(difference),
-            None => Compared::Same(Verdict::of(&printed)),
-        },
-    }
-}
-
-/// A case's first bytes, and how both programs' outputs compare.
-struct Outcome {
-    head: Vec<u8>,
-    compared: [Compared; 2],
-}
-
-impl Outcome {
-    fn of(options: &Options, case: &Case) -> Outcome {
-        let scene = case.bytes();
-        Outcome {
-            head: scene.iter().copied().take(HEADER).collect(),
-            compared: [0, 1].map(|at| compare(&options.proved[at], PROGRAMS[at], &scene)),
-        }
-    }
-}
-
-/// All cases' outcomes, in the cases' order, by several threads.
+/// All cases' outcomes, in the cases' order, by several threads. Faults are told as they are met.
 fn compare_all(options: &Options, cases: &[Case]) -> Vec<Outcome> {
     let next = AtomicUsize::new(0);
-    let work = || -> Vec<(usize, Outcome)> {
-        iter::repeat_with(|| next.fetch_add(1, Ordering::Relaxed))
-            .map_while(|number| Some((number, cases.get(number)?)))
-            .map(|(number, case)| (number, Outcome::of(options, case)))
-            .collect()
-    };
-    let mut outcomes = thread::scope(|scope| {
-        let workers: Vec<_> = (0..options.jobs).map(|_| scope.spawn(work)).collect();
-        let joined = workers
-            .into_iter()
-            .map(|worker| worker.join().expect("a worker's end"));
-        joined.flatten().collect::<Vec<_>>()
+    let (sender, receiver) = mpsc::channel();
+    let mut outcomes: Vec<(usize, Outcome)> = thread::scope(|scope| {
+        for sender in iter::repeat_n(sender, options.jobs) {
+            let next = &next;
+            scope.spawn(move || {
+                let numbers = iter::repeat_with(|| next.fetch_add(1, Ordering::Relaxed));
+                for (number, case) in numbers.map_while(|at| Some((at, cases.get(at)?))) {
+                    let outcome = Outcome::of(&options.proved, case);
+                    // If nobody receives, this program is ending.
+                    let _ = sender.send((number, outcome));
+                }
+            });
+        }
+        let told = receiver.into_iter();
+        told.inspect(|(_, outcome)| tell(&outcome.faults)).collect()
     });
     outcomes.sort_unstable_by_key(|(number, _)| *number);
     outcomes.into_iter().map(|(_, outcome)| outcome).collect()
 }
 
+fn tell(faults: &[String]) {
+    for fault in faults {
+        println!("DIFFERENCE {fault}");
+    }
+}
+
 /// The last refusal number that a program can print.
-const NUMBERS: usize = 8;
+const NUMBERS: usize = programs::NUMBERS as usize;
 
 #[derive(Clone, Debug, Default)]
 struct Counts {
@@ -214,32 +198,21 @@ struct Summary {
     all: Counts,
     met: Met,
     places: BTreeMap<u64, BTreeSet<u64>>,
+    hashes: BTreeSet<u64>,
+    /// How many scenes carry the answer of the documents.
+    answered: usize,
+    /// How many outputs of the proved programs were compared.
     outputs: usize,
-    faults: Vec<String>,
+    faults: usize,
 }
 
 impl Summary {
-    fn add(&mut self, case: &Case, outcome: Outcome) {
-        let mut verdicts = [None; 2];
-        for (at, compared) in outcome.compared.into_iter().enumerate() {
-            let program = programs::name(PROGRAMS[at]);
-            self.outputs += 1;
-            match compared {
-                Compared::Same(verdict) => verdicts[at] = Some(verdict),
-                Compared::Differs(difference) => {
-                    self.faults
-                        .push(described(&case.name, program, &difference));
-                }
-                Compared::Failed(failure) => {
-                    self.faults
-                        .push(format!("{} {program}: {failure}", case.name));
-                }
-            }
-        }
-        if verdicts.contains(&Some(Verdict::Strange)) {
-            self.faults
-                .push(format!("{}: neither a listing nor a refusal", case.name));
-        }
+    fn add(&mut self, case: &Case, outcome: &Outcome) {
+        self.hashes.insert(outcome.hash);
+        self.answered += usize::from(case.answer().is_some());
+        self.outputs += outcome.compared;
+        self.faults += outcome.faults.len();
+        let verdicts = outcome.verdicts;
         match verdicts.into_iter().flatten().next() {
             Some(Verdict::Refused { number, last }) => {
                 self.places.entry(number).or_default().insert(last);
@@ -290,9 +263,6 @@ impl Summary {
                 places.len()
             );
         }
-        self.faults
-            .iter()
-            .for_each(|fault| println!("DIFFERENCE {fault}"));
     }
 
     /// The refusal numbers that no scene met.
@@ -303,78 +273,61 @@ impl Summary {
     }
 }
 
-fn described(name: &str, program: &str, difference: &Difference) -> String {
-    let shown = |line: &Option<String>| line.clone().unwrap_or("(no line)".to_owned());
-    let (proved, plain) = (shown(&difference.one), shown(&difference.other));
-    format!(
-        "{name} {program}: line {}\n  proved {proved}\n  plain  {plain}",
-        difference.line
-    )
-}
-
-/// The program `plain` against its library, on the first scene of each family.
-fn compare_binary(cases: &[Case]) -> (usize, Vec<String>) {
+/// The program `plain` against its library, on the first scene of each family: how many outputs
+/// were compared, and how many faults there are.
+fn compare_binary(options: &Options, cases: &[Case]) -> (usize, usize) {
+    let plain = programs::beside("plain");
     let mut families = BTreeSet::new();
     let few = cases.iter().filter(|case| families.insert(case.family));
-    let (mut outputs, mut faults) = (0, Vec::new());
-    for case in few {
-        let scene = case.bytes();
-        for program in PROGRAMS {
-            let name = programs::name(program);
-            outputs += 1;
-            let printed = programs::output(&programs::beside("plain"), &[name], &scene);
-            if printed.is_err() || printed != programs::listing(&scene, program) {
-                faults.push(format!("{} {name}: `plain` against its library", case.name));
-            }
-        }
-    }
-    (outputs, faults)
+    few.fold((0, 0), |(outputs, faults), case| {
+        let (more, found) = outcome::of_plain(&plain, options.proved.limit, case);
+        tell(&found);
+        (outputs + more, faults + found.len())
+    })
 }
 
 fn run_all(options: &Options) -> bool {
     let cases = catalog::all(options.seed, options.amounts);
+    println!("seed {}, {} scenes", options.seed, cases.len());
     let mut summary = Summary::default();
     for (case, outcome) in cases.iter().zip(compare_all(options, &cases)) {
-        summary.add(case, outcome);
+        summary.add(case, &outcome);
     }
-    let (outputs, faults) = compare_binary(&cases);
-    println!("seed {}", options.seed);
-    println!(
-        "{} scenes, each through both proved programs and the library",
-        cases.len()
-    );
-    println!("{outputs} outputs of the program `plain` against its library");
-    summary.faults.extend(faults);
+    let (of_plain, faults) = compare_binary(options, &cases);
+    summary.faults += faults;
     summary.print();
     let unmet = summary.unmet();
     unmet
         .iter()
         .for_each(|number| println!("no scene was refused with {number}"));
-    let (outputs, faults) = (summary.outputs + outputs, summary.faults.len());
-    println!("{outputs} outputs compared, {faults} differences");
-    faults == 0 && unmet.is_empty()
+    let (different, answered) = (summary.hashes.len(), summary.answered);
+    println!("{different} of the scenes are different, byte for byte");
+    println!(
+        "{answered} scenes carry the answer of the documents, and both programs were held to it"
+    );
+    let outputs = summary.outputs;
+    println!("{outputs} outputs of the proved programs were compared with the library `plain`");
+    println!("{of_plain} outputs of the program `plain` were compared with its library");
+    println!("{} differences", summary.faults);
+    summary.faults == 0 && unmet.is_empty()
 }
 
 fn run_only(options: &Options, name: &str) -> Result<bool, String> {
     let case = named(name)?;
     println!("{name}: {} bytes", case.bytes().len());
-    let mut differences = 0;
-    for (program, compared) in PROGRAMS
-        .into_iter()
-        .zip(Outcome::of(options, &case).compared)
-    {
-        let program = programs::name(program);
-        differences += usize::from(!matches!(compared, Compared::Same(_)));
-        match compared {
-            Compared::Same(verdict) => println!("{program}: the same, {verdict:?}"),
-            Compared::Differs(difference) => {
-                println!("{}", described(name, program, &difference));
-            }
-            Compared::Failed(failure) => println!("{program}: {failure}"),
+    if let Some(answer) = case.answer() {
+        println!("the documents say: {answer}");
+    }
+    let outcome = Outcome::of(&options.proved, &case);
+    tell(&outcome.faults);
+    for (program, verdict) in PROGRAMS.into_iter().zip(outcome.verdicts) {
+        if let Some(verdict) = verdict {
+            println!("{}: the same, {verdict:?}", programs::name(program));
         }
     }
-    println!("2 outputs compared, {differences} differences");
-    Ok(differences == 0)
+    let (compared, faults) = (outcome.compared, outcome.faults.len());
+    println!("{compared} outputs compared, {faults} differences");
+    Ok(faults == 0)
 }
 
 fn run(options: &Options) -> Result<bool, String> {
@@ -384,7 +337,7 @@ fn run(options: &Options) -> Result<bool, String> {
             .map(|()| true)
             .map_err(|error| format!("{}: {error}", file.display()));
     }
-    programs::present(&options.proved)?;
+    programs::present(&options.proved.paths)?;
     match &options.only {
         Some(name) => run_only(options, name),
         None => Ok(run_all(options)),

@@ -5,7 +5,7 @@ use std::fs::{self, File};
 use std::path::{Path, PathBuf};
 use std::process::{Command, ExitCode, Stdio};
 use std::str::FromStr;
-use std::time::Instant;
+use std::time::{Duration, Instant};
 
 use checks::bytes::Kind;
 use checks::programs::{self, PROGRAMS};
@@ -261,6 +261,9 @@ fn print_growth(scenes: &[Timed], rows: &[Row], what: &str, figure: fn(&Figures)
     }
 }
 
+/// For all runs of one process inside.
+const LIMIT: Duration = Duration::from_secs(600);
+
 const STAGES: [&str; 5] = ["read", "lay", "load", "turns", "list"];
 
 /// Nanoseconds of each stage, and how many turns were made.
@@ -272,7 +275,7 @@ struct Stages {
 
 impl Stages {
     fn run(program: &Path, arguments: &[&str], scene: &[u8]) -> Result<Stages, String> {
-        let printed = programs::output(program, arguments, scene)?;
+        let printed = programs::output(program, arguments, scene, LIMIT)?;
         let printed = String::from_utf8_lossy(&printed);
         let value = |name: &str| {
             let mut lines = printed.lines().map(|line| line.split_whitespace());
