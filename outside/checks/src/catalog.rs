@@ -76,7 +76,7 @@ impl Case {
     pub fn bytes(&self) -> Vec<u8> {
         match &self.source {
             Source::Surface(shape, seed, number) => shape.scene(*seed, *number).bytes(),
-            Source::Sized(cells) => surfaces::sized(*cells).bytes(),
+            Source::Sized(number) => surfaces::sized(*number).bytes(),
             Source::Near(number) => surfaces::near_room(*number).bytes(),
             Source::Recipe(recipe) => recipe.bytes(),
             Source::Flipped(seed, number) => damage::flipped(*seed, *number),

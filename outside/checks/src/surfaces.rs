@@ -296,12 +296,16 @@ mod tests {
     }
 
     #[test]
-    fn sized_scenes_are_accepted_and_meet_every_count_of_cells() {
-        for cells in 0..SIZES {
-            let scene = sized(cells);
-            assert_eq!(scene.cells.len(), cells);
-            assert!(plain::sizes(&scene.bytes()).is_some(), "sizes/{cells}");
+    fn sized_scenes_are_accepted_and_meet_every_count() {
+        let (mut cells, mut vertices) = (BTreeSet::new(), BTreeSet::new());
+        for number in 0..SIZES {
+            let scene = sized(number);
+            assert!(plain::sizes(&scene.bytes()).is_some(), "sizes/{number}");
+            cells.insert(scene.cells.len());
+            vertices.insert(usize::from(scene.vertices));
         }
+        assert!(cells.into_iter().eq(0..=MOST));
+        assert!(vertices.into_iter().eq(0..=MOST));
     }
 
     #[test]

@@ -5,26 +5,29 @@ use super::{Head, all};
 use crate::bytes::{BOARDS, Kind, MOST, Scene};
 use crate::random::Random;
 
-/// Scene number `cells` of a row that meets every count of cells, and almost every of vertices.
-pub fn sized(cells: usize) -> Scene {
-    let random = &mut Random::of("sizes", 0, cells);
-    let vertices = (cells * 389 + 200) % (MOST + 1);
-    let vertices = if vertices < 3 {
-        vertices + 511
-    } else {
-        vertices
+/// A scene of a row that meets every count of cells, and every count of vertices.
+pub fn sized(number: usize) -> Scene {
+    let random = &mut Random::of("sizes", 0, number);
+    let (cells, vertices) = match number.checked_sub(MOST + 1) {
+        // A cell needs three vertices, so the scenes with fewer stand behind the others.
+        Some(vertices) => (0, vertices),
+        None => match (number * 389 + 200) % (MOST + 1) {
+            few @ 0..3 => (number, few + 511),
+            vertices => (number, vertices),
+        },
     };
     let head = Head {
-        kind: Kind::ALL[cells % 3],
-        boards: 1 + cells % BOARDS,
-        overlap: cells % 5,
+        kind: Kind::ALL[number % 3],
+        boards: 1 + number % BOARDS,
+        overlap: number % 5,
     };
     let mut surface = round_strip(cells, vertices);
     surface.divide(Division::Bands, &all(head.boards), random);
     head.scene(surface, random)
 }
 
-pub const SIZES: usize = MOST + 1;
+/// From 0 to the most cells, and from 0 to 2 vertices.
+pub const SIZES: usize = MOST + 1 + 3;
 
 /// A scene whose plan has exactly so many copies, where there is one of this sort: a fan that
 /// all boards keep whole, and beside it a strip that only one board keeps.
