@@ -1,14 +1,15 @@
-//! Times whole processes, proved and plain ones interleaved, on three sizes of one surface; and,
-//! where programs for it are named, the stages inside.
+//! Times whole processes, proved and plain ones interleaved, on three sizes of one surface and on
+//! no input; and, where programs for it are named, the stages inside.
 
 use std::fs::{self, File};
 use std::path::{Path, PathBuf};
 use std::process::{Command, ExitCode, Stdio};
 use std::str::FromStr;
+use std::thread;
 use std::time::{Duration, Instant};
 
 use checks::bytes::Kind;
-use checks::programs::{self, PROGRAMS};
+use checks::programs::{self, Difference, PROGRAMS, Verdict};
 use checks::random::Random;
 use checks::surfaces::closed;
 use plain::Program;
@@ -75,44 +76,83 @@ fn kind(name: &str) -> Result<Kind, String> {
     }
 }
 
-/// A scene to be timed, in a file.
-struct Timed {
+/// What the runners read, in a file: a scene, or nothing.
+struct Input {
+    what: String,
+    /// None without a scene.
     cells: usize,
-    copies: usize,
-    edges: usize,
     path: PathBuf,
 }
 
-impl Timed {
-    fn new(columns: usize, rows: usize, kind: Kind) -> Result<Timed, String> {
+impl Input {
+    fn nothing() -> Result<Input, String> {
+        Input::written("no input".to_owned(), 0, "speed_nothing", &[])
+    }
+
+    fn scene(columns: usize, rows: usize, kind: Kind) -> Result<Input, String> {
         let scene = closed(columns, rows, kind);
         let (cells, bytes) = (scene.cells.len(), scene.bytes());
         let sizes = plain::sizes(&bytes).ok_or("a scene to be timed is not accepted")?;
-        let path = programs::beside(&format!("speed_{}_{cells}.scene", kind.number()));
-        fs::write(&path, bytes).map_err(|error| format!("{}: {error}", path.display()))?;
-        Ok(Timed {
-            cells,
-            copies: sizes.copies,
-            edges: sizes.edges,
-            path,
-        })
+        let what = format!(
+            "{cells} cells, {} copies, {} edges",
+            sizes.copies, sizes.edges
+        );
+        let file = format!("speed_{}_{cells}.scene", kind.number());
+        Input::written(what, cells, &file, &bytes)
+    }
+
+    fn written(what: String, cells: usize, file: &str, bytes: &[u8]) -> Result<Input, String> {
+        let path = programs::beside(file);
+        match fs::write(&path, bytes) {
+            Ok(()) => Ok(Input { what, cells, path }),
+            Err(error) => Err(format!("{}: {error}", path.display())),
+        }
+    }
+
+    fn bytes(&self) -> Result<Vec<u8>, String> {
+        fs::read(&self.path).map_err(|error| format!("{}: {error}", self.path.display()))
+    }
+
+    /// Only equal work can be compared, and no timed run's output is looked at.
+    fn check(&self, options: &Options) -> Result<(), String> {
+        let bytes = self.bytes()?;
+        Runner::Idle.output(options, &bytes)?;
+        for program in PROGRAMS {
+            let name = programs::name(program);
+            let proved = Runner::Proved(program).output(options, &bytes)?;
+            let plain = Runner::Plain(program).output(options, &bytes)?;
+            if let Some(difference) = Difference::of(&proved, &plain) {
+                return Err(format!("DIFFERENT: {}, {name}: {difference}", self.what));
+            }
+            let as_due = match Verdict::of(&proved) {
+                Verdict::Listed { .. } => self.cells > 0,
+                Verdict::Refused { number, last } => (self.cells, number, last) == (0, 1, 0),
+                Verdict::Strange => false,
+            };
+            if !as_due {
+                let printed = String::from_utf8_lossy(&proved);
+                let line = printed.lines().next().unwrap_or_default();
+                return Err(format!("{}, {name}: prints {line:?}", self.what));
+            }
+        }
+        Ok(())
     }
 }
 
 /// Squares in each direction, from the largest scene to the smallest.
 const SHAPES: [(usize, usize); 3] = [(32, 16), (16, 8), (8, 4)];
 
-/// What is run; each of them once a round on each scene.
+/// What is run; each of them once a round on each input.
 #[derive(Clone, Copy, Debug, PartialEq, Eq)]
 enum Runner {
     /// A process that does nothing.
-    Floor,
+    Idle,
     Proved(Program),
     Plain(Program),
 }
 
 const RUNNERS: [Runner; 5] = [
-    Runner::Floor,
+    Runner::Idle,
     Runner::Proved(Program::Halo),
     Runner::Plain(Program::Halo),
     Runner::Proved(Program::HaloRough),
@@ -122,31 +162,35 @@ const RUNNERS: [Runner; 5] = [
 impl Runner {
     fn name(self) -> String {
         match self {
-            Runner::Floor => "/bin/true".to_owned(),
+            Runner::Idle => "/bin/true".to_owned(),
             Runner::Proved(program) => programs::name(program).to_owned(),
             Runner::Plain(program) => format!("plain {}", programs::name(program)),
         }
     }
 
-    fn command(self, options: &Options) -> Command {
+    /// The program's path and arguments.
+    fn program(self, options: &Options) -> (PathBuf, Vec<&'static str>) {
         match self {
-            Runner::Floor => Command::new("/bin/true"),
-            Runner::Proved(Program::Halo) => Command::new(&options.proved[0]),
-            Runner::Proved(Program::HaloRough) => Command::new(&options.proved[1]),
-            Runner::Plain(program) => {
-                let mut command = Command::new(programs::beside("plain"));
-                command.arg(programs::name(program));
-                command
-            }
+            Runner::Idle => ("/bin/true".into(), vec![]),
+            Runner::Proved(Program::Halo) => (options.proved[0].clone(), vec![]),
+            Runner::Proved(Program::HaloRough) => (options.proved[1].clone(), vec![]),
+            Runner::Plain(program) => (programs::beside("plain"), vec![programs::name(program)]),
         }
     }
 
+    fn output(self, options: &Options, input: &[u8]) -> Result<Vec<u8>, String> {
+        let (path, arguments) = self.program(options);
+        programs::output(&path, &arguments, input, LIMIT)
+    }
+
     /// Microseconds from before the process is made to after its end.
-    fn time(self, options: &Options, scene: &Timed) -> Result<f64, String> {
+    fn time(self, options: &Options, input: &Input) -> Result<f64, String> {
         let failed = |error| format!("{}: {error}", self.name());
-        let mut command = self.command(options);
+        let (path, arguments) = self.program(options);
+        let mut command = Command::new(path);
         command
-            .stdin(File::open(&scene.path).map_err(failed)?)
+            .args(arguments)
+            .stdin(File::open(&input.path).map_err(failed)?)
             .stdout(Stdio::null());
         let begun = Instant::now();
         let status = command
@@ -183,22 +227,22 @@ impl Figures {
     }
 }
 
-/// The figures of each runner on one scene.
+/// The figures of each runner on one input.
 type Row = [Figures; RUNNERS.len()];
 
 /// All runs of all rounds. In each round the order is another one, so that no runner always
 /// follows the same one.
-fn measure(options: &Options, scenes: &[Timed]) -> Result<Vec<Row>, String> {
-    let mut times = vec![[(); RUNNERS.len()].map(|()| Vec::new()); scenes.len()];
-    let all_runs = |scene| (0..RUNNERS.len()).map(move |runner| (scene, runner));
-    let mut runs: Vec<(usize, usize)> = (0..scenes.len()).flat_map(all_runs).collect();
+fn measure(options: &Options, inputs: &[Input]) -> Result<Vec<Row>, String> {
+    let mut times = vec![[(); RUNNERS.len()].map(|()| Vec::new()); inputs.len()];
+    let all_runs = |input| (0..RUNNERS.len()).map(move |runner| (input, runner));
+    let mut runs: Vec<(usize, usize)> = (0..inputs.len()).flat_map(all_runs).collect();
     let random = &mut Random::new(options.seed);
     for round in 0..options.unmeasured + options.rounds {
         random.shuffle(&mut runs);
-        for &(scene, runner) in &runs {
-            let time = RUNNERS[runner].time(options, &scenes[scene])?;
+        for &(input, runner) in &runs {
+            let time = RUNNERS[runner].time(options, &inputs[input])?;
             if round >= options.unmeasured {
-                times[scene][runner].push(time);
+                times[input][runner].push(time);
             }
         }
     }
@@ -208,9 +252,8 @@ fn measure(options: &Options, scenes: &[Timed]) -> Result<Vec<Row>, String> {
         .collect())
 }
 
-fn print_scene(scene: &Timed, row: &Row) {
-    let (cells, copies, edges) = (scene.cells, scene.copies, scene.edges);
-    println!("\n{cells} cells, {copies} copies, {edges} edges; microseconds a process");
+fn print_figures(input: &Input, row: &Row) {
+    println!("\n{}; microseconds a process", input.what);
     println!("{:18}{:>10}{:>10}{:>10}", "", "minimum", "median", "spread");
     for (runner, figures) in RUNNERS.iter().zip(row) {
         let Figures {
@@ -223,24 +266,39 @@ fn print_scene(scene: &Timed, row: &Row) {
             runner.name()
         );
     }
+}
+
+/// Each runner's floor is its own time on no input: their start-ups differ.
+fn print_ratios(row: &Row, floors: &Row) {
     println!(
         "{:18}{:>10}{:>10}{:>22}",
         "proved / plain", "minimum", "median", "without the floor"
     );
-    let [floor, pairs @ ..] = row;
-    for (program, pair) in PROGRAMS.into_iter().zip(pairs.chunks(2)) {
-        let [proved, plain] = [pair[0], pair[1]];
-        let minimum = proved.minimum / plain.minimum;
-        let median = proved.median / plain.median;
-        let minimum_above = (proved.minimum - floor.minimum) / (plain.minimum - floor.minimum);
-        let median_above = (proved.median - floor.median) / (plain.median - floor.median);
-        let name = programs::name(program);
-        println!("{name:18}{minimum:>10.2}{median:>10.2}{minimum_above:>12.2}{median_above:>10.2}");
+    let ([_, pairs @ ..], [_, floors @ ..]) = (row, floors);
+    let pairs = pairs.chunks(2).zip(floors.chunks(2));
+    for (program, (pair, floor)) in PROGRAMS.into_iter().zip(pairs) {
+        let whole = |figure: fn(&Figures) -> f64| figure(&pair[0]) / figure(&pair[1]);
+        let above = |figure: fn(&Figures) -> f64| {
+            (figure(&pair[0]) - figure(&floor[0])) / (figure(&pair[1]) - figure(&floor[1]))
+        };
+        println!(
+            "{:18}{:>10.2}{:>10.2}{:>12.2}{:>10.2}",
+            programs::name(program),
+            whole(|figures| figures.minimum),
+            whole(|figures| figures.median),
+            above(|figures| figures.minimum),
+            above(|figures| figures.median)
+        );
     }
 }
 
 /// Time a cell, without the floor, and how it compares with that of the largest scene.
-fn print_growth(scenes: &[Timed], rows: &[Row], what: &str, figure: fn(&Figures) -> f64) {
+fn print_growth(
+    (scenes, rows): (&[Input], &[Row]),
+    floors: &Row,
+    what: &str,
+    figure: fn(&Figures) -> f64,
+) {
     println!("\nmicroseconds a cell, of {what} without the floor; and over that of most cells");
     let heads: String = scenes
         .iter()
@@ -248,7 +306,7 @@ fn print_growth(scenes: &[Timed], rows: &[Row], what: &str, figure: fn(&Figures)
         .collect();
     println!("{:18}{heads}", "cells");
     for (at, runner) in RUNNERS.iter().enumerate().skip(1) {
-        let above = |row: &Row| figure(&row[at]) - figure(&row[0]);
+        let above = |row: &Row| figure(&row[at]) - figure(&floors[at]);
         let times = scenes
             .iter()
             .zip(rows)
@@ -261,7 +319,7 @@ fn print_growth(scenes: &[Timed], rows: &[Row], what: &str, figure: fn(&Figures)
     }
 }
 
-/// For all runs of one process inside.
+/// For one process whose output is read, with all its runs inside.
 const LIMIT: Duration = Duration::from_secs(600);
 
 const STAGES: [&str; 5] = ["read", "lay", "load", "turns", "list"];
@@ -294,26 +352,29 @@ impl Stages {
         })
     }
 
-    /// Stage by stage the median of several runs.
-    fn median(runs: &[Stages]) -> Stages {
+    /// Stage by stage the median of several runs, which must have made the same turns.
+    fn median(runs: &[Stages]) -> Result<Stages, String> {
+        if runs.iter().any(|run| run.made != runs[0].made) {
+            return Err("DIFFERENT numbers of turns in the runs of one program".to_owned());
+        }
         let stage = |stage: usize| {
             let times: Vec<f64> = runs.iter().map(|run| run.times[stage]).collect();
             Figures::of(&times).median
         };
-        Stages {
+        Ok(Stages {
             times: std::array::from_fn(stage),
             made: runs[0].made,
-        }
+        })
     }
 }
 
 fn measure_stages(
     options: &Options,
-    scene: &Timed,
+    scene: &Input,
     program: Program,
     proved: &Path,
 ) -> Result<[Stages; 2], String> {
-    let bytes = fs::read(&scene.path).map_err(|error| error.to_string())?;
+    let bytes = scene.bytes()?;
     let runs = options.stages_runs.to_string();
     let (mut by_proved, mut by_plain) = (Vec::new(), Vec::new());
     let (plain, name) = (programs::beside("stages"), programs::name(program));
@@ -326,10 +387,10 @@ fn measure_stages(
             }
         }
     }
-    Ok([Stages::median(&by_proved), Stages::median(&by_plain)])
+    Ok([Stages::median(&by_proved)?, Stages::median(&by_plain)?])
 }
 
-fn print_stages(scene: &Timed, program: Program, [proved, plain]: &[Stages; 2]) {
+fn print_stages(scene: &Input, program: Program, [proved, plain]: &[Stages; 2]) {
     let (name, cells) = (programs::name(program), scene.cells);
     println!("\n{name}, {cells} cells: microseconds inside, medians");
     println!("{:18}{:>12}{:>12}{:>8}", "", "proved", "plain", "ratio");
@@ -358,12 +419,28 @@ fn print_stages(scene: &Timed, program: Program, [proved, plain]: &[Stages; 2]) 
     }
 }
 
+/// The processors, and how busy they are, as far as that is told.
+fn print_machine() {
+    let told = |path: &str| fs::read_to_string(path).unwrap_or_default();
+    let (information, load) = (told("/proc/cpuinfo"), told("/proc/loadavg"));
+    let fields = |name: &'static str| {
+        let fields = information.lines().filter_map(|line| line.split_once(':'));
+        let named = fields.filter(move |(key, _)| key.trim() == name);
+        named.map(|(_, value)| value.trim())
+    };
+    let usable = thread::available_parallelism().map_or(0, usize::from);
+    let (count, name) = (fields("processor").count(), fields("model name").next());
+    let load: Vec<&str> = load.split_whitespace().take(3).collect();
+    println!(
+        "{count} processors, {usable} for this process: {}; load average {}",
+        name.unwrap_or("no name"),
+        load.join(" ")
+    );
+}
+
 fn run(options: &Options) -> Result<(), String> {
     programs::present(options.proved.iter().chain(&options.stages_proved))?;
-    let scenes: Vec<Timed> = SHAPES
-        .iter()
-        .map(|&(columns, rows)| Timed::new(columns, rows, options.kind))
-        .collect::<Result<_, String>>()?;
+    print_machine();
     println!(
         "closed surfaces on 8 scattered boards, overlap 1, kind {:?}",
         options.kind
@@ -372,27 +449,48 @@ fn run(options: &Options) -> Result<(), String> {
         "{} rounds after {} unmeasured ones",
         options.rounds, options.unmeasured
     );
-    let rows = measure(options, &scenes)?;
-    scenes
-        .iter()
-        .zip(&rows)
-        .for_each(|(scene, row)| print_scene(scene, row));
-    print_growth(&scenes, &rows, "medians", |figures| figures.median);
-    print_growth(&scenes, &rows, "minimums", |figures| figures.minimum);
+    let scenes = SHAPES.map(|(columns, rows)| Input::scene(columns, rows, options.kind));
+    let inputs: Vec<Input> = [Input::nothing()]
+        .into_iter()
+        .chain(scenes)
+        .collect::<Result<_, String>>()?;
+    inputs.iter().try_for_each(|input| input.check(options))?;
+    println!("proved and plain print the same on each");
+    time_whole(options, &inputs)?;
     match &options.stages_proved {
-        Some(proved) => time_inside(options, &scenes, proved),
+        Some(proved) => time_inside(options, &inputs[1..], proved),
         None => Ok(()),
     }
 }
 
-fn time_inside(options: &Options, scenes: &[Timed], proved: &Path) -> Result<(), String> {
+/// The first input is nothing, the others are scenes.
+fn time_whole(options: &Options, inputs: &[Input]) -> Result<(), String> {
+    let rows = measure(options, inputs)?;
+    let (floors, timed) = (&rows[0], (&inputs[1..], &rows[1..]));
+    print_figures(&inputs[0], floors);
+    for (scene, row) in timed.0.iter().zip(timed.1) {
+        print_figures(scene, row);
+        print_ratios(row, floors);
+    }
+    print_growth(timed, floors, "medians", |figures| figures.median);
+    print_growth(timed, floors, "minimums", |figures| figures.minimum);
+    Ok(())
+}
+
+fn time_inside(options: &Options, scenes: &[Input], proved: &Path) -> Result<(), String> {
+    let mut same = true;
     for program in PROGRAMS {
         for scene in scenes {
             let stages = measure_stages(options, scene, program, proved)?;
             print_stages(scene, program, &stages);
+            same &= stages[0].made == stages[1].made;
         }
     }
-    Ok(())
+    if same {
+        Ok(())
+    } else {
+        Err("the numbers of turns are DIFFERENT".to_owned())
+    }
 }
 
 fn main() -> ExitCode {
