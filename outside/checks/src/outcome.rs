@@ -20,12 +20,14 @@ pub struct Proved {
 pub struct Outcome {
     /// The scene's first bytes.
     pub head: Vec<u8>,
-    /// Tells scenes of different bytes apart.
-    pub hash: u64,
+    /// Tells scenes of different bytes apart; none where the scene could not be made.
+    pub hash: Option<u64>,
     /// What each program says, where nothing is wrong with its output.
     pub verdicts: [Option<Verdict>; 2],
     /// How many outputs were compared with the library's.
     pub compared: usize,
+    /// How many outputs were held to the answer of the documents.
+    pub held: usize,
     pub faults: Vec<String>,
 }
 
@@ -45,13 +47,14 @@ impl Outcome {
         scene.hash(&mut hasher);
         let mut outcome = Outcome {
             head: scene.iter().copied().take(HEADER).collect(),
-            hash: hasher.finish(),
+            hash: Some(hasher.finish()),
             ..Outcome::default()
         };
         for (at, program) in PROGRAMS.into_iter().enumerate() {
             let printed = programs::output(&proved.paths[at], &[], &scene, proved.limit);
             let listing = programs::listing(&scene, program);
             outcome.compared += usize::from(printed.is_ok() && listing.is_ok());
+            outcome.held += usize::from(printed.is_ok() && case.answer().is_some());
             let name = format!("{} {}", case.name, programs::name(program));
             let faults = faults(&printed, &listing, case.answer());
             if let (Ok(printed), true) = (printed, faults.is_empty()) {
@@ -159,7 +162,8 @@ mod tests {
         };
         let case = Case::named("mark/3").expect("a case of that name");
         let outcome = Outcome::of(&proved("/bin/true"), &case);
-        assert_eq!((outcome.compared, outcome.verdicts), (1, [None; 2]));
+        assert_eq!((outcome.compared, outcome.held), (1, 1));
+        assert_eq!(outcome.verdicts, [None; 2]);
         // Differs, is empty and is not the refusal that is due; and the other one failed.
         assert_eq!(outcome.faults.len(), 4);
         let named = |fault: &String| fault.starts_with("mark/3 halo");

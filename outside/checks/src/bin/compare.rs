@@ -201,6 +201,8 @@ struct Summary {
     hashes: BTreeSet<u64>,
     /// How many scenes carry the answer of the documents.
     answered: usize,
+    /// How many outputs were held to it.
+    held: usize,
     /// How many outputs of the proved programs were compared.
     outputs: usize,
     faults: usize,
@@ -208,8 +210,9 @@ struct Summary {
 
 impl Summary {
     fn add(&mut self, case: &Case, outcome: &Outcome) {
-        self.hashes.insert(outcome.hash);
+        self.hashes.extend(outcome.hash);
         self.answered += usize::from(case.answer().is_some());
+        self.held += outcome.held;
         self.outputs += outcome.compared;
         self.faults += outcome.faults.len();
         let verdicts = outcome.verdicts;
@@ -300,12 +303,12 @@ fn run_all(options: &Options) -> bool {
     unmet
         .iter()
         .for_each(|number| println!("no scene was refused with {number}"));
-    let (different, answered) = (summary.hashes.len(), summary.answered);
+    let (different, outputs) = (summary.hashes.len(), summary.outputs);
     println!("{different} of the scenes are different, byte for byte");
     println!(
-        "{answered} scenes carry the answer of the documents, and both programs were held to it"
+        "{} scenes carry the answer of the documents; {} outputs were held to it",
+        summary.answered, summary.held
     );
-    let outputs = summary.outputs;
     println!("{outputs} outputs of the proved programs were compared with the library `plain`");
     println!("{of_plain} outputs of the program `plain` were compared with its library");
     println!("{} differences", summary.faults);
