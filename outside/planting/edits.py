@@ -38,6 +38,10 @@ METHODS = {
     "wrapping_add": "wrapping_sub",
     "wrapping_sub": "wrapping_add",
 }
+SHIFTS = {"<": ">>", ">": "<<"}
+# which give the same with their sides exchanged
+EVEN = {"+", "*", "&", "|", "^", "==", "!=", "&&", "||"}
+EVEN_METHODS = {"wrapping_add", "wrapping_mul", "min", "max"}
 STATEMENTS = {"for", "while", "loop", "if", "match", "unsafe"}
 NO_WRITES = {"let", "return", "continue", "break", "use", "const", "fn", "struct"}
 INTEGERS = {"u8", "u16", "u32", "u64", "usize", "i32", "i64"}
@@ -88,9 +92,17 @@ class Finder:
             self.drops(first, last)
             self.returns(first, last)
             self.breaks(first, last)
+            self.others(first + 1, last)
         for self.function in self.source.constants:
             self.values(*self.function.value)
+            self.others(*self.function.value)
         return self.found
+
+    def others(self, first, last):
+        # behind the rest, so that the numbers in the ids of the rest stay
+        for i in range(first, last):
+            self.shift(i)
+            self.condition(i)
 
     def values(self, first, last):
         """What may be wrong in the expressions between two places."""
@@ -111,6 +123,9 @@ class Finder:
         text, token = self.source.text, self.tokens[i]
         return text[token.at - 1].isspace() and text[token.end].isspace()
 
+    def is_sign(self, i):
+        return self.tokens[i].text in OPERATORS and self.is_spaced(i)
+
     def is_pattern(self, i):
         """Whether what stands at i is matched: `=>` or `=` comes before its list or block ends."""
         while i < len(self.tokens):
@@ -124,7 +139,7 @@ class Finder:
 
     def operator(self, i):
         token, source = self.tokens[i], self.source
-        if token.text in OPERATORS and self.is_spaced(i):
+        if self.is_sign(i):
             if token.text != "|" or not self.is_pattern(i):
                 for new in OPERATORS[token.text]:
                     self.replace("operator", i, i + 1, new)
@@ -132,6 +147,30 @@ class Finder:
             self.replace("operator", i, i + 1, METHODS[token.text])
         elif token.text == "!" and self.tokens[i - 1].kind != "name":
             self.replace("operator", i, i + 1, "")
+
+    def shift(self, i):
+        one, two = self.tokens[i : i + 2]
+        if one.text in SHIFTS and two.text == one.text and one.end == two.at:
+            if self.source.text[one.at - 1].isspace() and self.source.text[two.end].isspace():
+                self.replace("operator", i, i + 2, SHIFTS[one.text])
+
+    def condition(self, i):
+        """An `if` that asks for the opposite, unless another edit of an operator does the same."""
+        source, top = self.source, [i + 1]
+        if not source.is_at(i, "if"):
+            return
+        while not source.is_at(top[-1], "{", "=>"):
+            j = top[-1]
+            top.append(source.closes[j] if source.is_at(j, "(", "[") else j + 1)
+        end = top.pop()
+        signs = [self.tokens[j].text for j in top if self.is_sign(j)]
+        if any(source.is_at(j, "let") for j in top) or signs in (["=="], ["!="]):
+            return
+        if signs:
+            self.replace("operator", i + 1, end, f"!({source.slice(i + 1, end)})")
+        elif not source.is_at(i + 1, "!") and not source.is_at(end - 3, "is_some", "is_none"):
+            at = self.tokens[i + 1].at
+            self.add("operator", at, at, "!")
 
     def range(self, i):
         ends = self.tokens[i + 1] if i + 1 < len(self.tokens) else None
@@ -201,7 +240,8 @@ class Finder:
                     len(given),
                 ):
                     types = [kind for _, kind in it.params]
-                    self.neighbours(given, types)
+                    if not is_even(source, it):
+                        self.neighbours(given, types)
                     return
 
     def neighbours(self, given, types):
@@ -339,6 +379,19 @@ class Finder:
                 close = "" if self.source.is_at(end, ";", "}", "{") else ";"
                 at = self.tokens[end].end
                 self.add("early return", at, at, f"{close} break;")
+
+
+def is_even(source, function):
+    """Whether a body is its two parameters on both sides of a sign that asks for no order."""
+    first, last = function.body or (0, 0)
+    body = [it.text for it in source.tokens[first + 1 : last]]
+    names = sorted(name for name, _ in function.params)
+    if len(body) == 3:
+        return names == sorted(body[::2]) and body[1] in EVEN
+    if len(body) == 6:
+        is_call = body[1::2] == [".", "(", ")"] and body[2] in EVEN_METHODS
+        return is_call and names == sorted(body[::4])
+    return False
 
 
 def first_type(text):
