@@ -1,9 +1,13 @@
 """Prints what became of planted bugs."""
 
+import re
 from collections import Counter
 
 from planting.edits import KINDS
-from planting.trying import PROOF, VERDICTS
+from planting.trying import HARMLESS, NAMES, PROOF, VERDICTS
+
+
+SHORT = re.compile(r" (?:at|by) (?:a|its program's) ")
 
 
 def squeezed(text, width=150):
@@ -29,13 +33,16 @@ def show_edit(edit, text):
 
 def show_trial(trial, text):
     show_edit(trial.edit, text)
-    print(f"    {trial.verdict}, {trial.seconds:.0f} s")
-    if trial.says:
+    reason = f": {trial.says}" if trial.verdict == HARMLESS else ""
+    print(f"    {trial.verdict}{reason}, {trial.seconds:.0f} s")
+    if trial.lacking:
+        print(f"    without the proof files of {trial.lacking}")
+    if trial.says and not reason:
         print(f"    {trial.place}{': ' if trial.place else ''}{squeezed(trial.says, 300)}")
-    if trial.verdict == PROOF:
-        if trial.is_by_name:
-            print("    only a proof that names what the edit took away is refused")
-        print(f"    facts in src that are not proved besides: {len(trial.facts)}")
+    if trial.facts:
+        shown = len(trial.shown_false)
+        print(f"    facts in src: {shown} shown false, {len(trial.facts) - shown} not proved")
+    if trial.verdict in (PROOF, NAMES):
         for place, says in trial.facts[:4]:
             print(f"        {place}: {squeezed(says, 200)}")
     print(flush=True)
@@ -46,7 +53,7 @@ def show_table(head, rows, trials, key):
     counts = Counter((key(it), it.verdict) for it in trials)
     rows = [it for it in rows if any((it, verdict) in counts for verdict in VERDICTS)]
     names = [it for it in VERDICTS if any((row, it) in counts for row in rows)]
-    short = [it.replace(" at a ", ": ").replace(" by its program's", ":") for it in names]
+    short = [SHORT.sub(": ", it) for it in names]
     width = max([len(head), *map(len, rows)])
     print(f"{head:{width}}  {'bugs':>5}  " + "  ".join(short))
     for row in [*rows, "all"]:
@@ -71,8 +78,11 @@ def show_end(trials, crates, thrown, seconds):
         print(f"edits that did not compile, and were drawn again: {len(thrown)}")
         for it in thrown:
             print(f"    {it.edit.id}  {it.place}: {squeezed(it.says, 120)}")
+    facts = sum(len(it.facts) for it in trials)
+    shown = sum(len(it.shown_false) for it in trials)
+    print(f"facts in src: {shown} shown false by values, {facts - shown} not proved by the search")
     alone = [it for it in trials if it.verdict == PROOF and not it.facts]
     show_ids("refused at a proof file alone, with no fact in src besides", alone)
-    by_name = [it for it in alone if it.is_by_name]
-    show_ids("of these only since a proof names what the edit took away", by_name)
+    by_name = [it for it in trials if it.verdict == NAMES]
+    show_ids("refused only since a proof names what the edit took away", by_name)
     print(f"{seconds / 60:.0f} min")

@@ -19,15 +19,20 @@ GONE = re.compile(
     r"|^[^,]*\(nearest: "
 )
 NO_FACT = re.compile(r"^note: (?:\./)?(src/\S+?:\d+:\d+): (.*)")
+FALSE = re.compile(r"allow values at which this goal is false")
+OWN_PROOF = re.compile(r"(proofs/(\S+)/(?:Answers|Invariants)\.antt):")
 MARK = "planted.json"  # at the top of a copy while an edit stands in it
 
-SRC = "refused at a fact in src"
+SHOWN = "refused at a fact shown false"
+SRC = "refused at a fact not proved"
 PROOF = "refused at a proof file"
+NAMES = "refused by a name that went"
 OUTPUT = "refused by its program's output"
 SURVIVED = "survived"
+HARMLESS = "survived, harmless"
 NO_BUG = "does not compile"
 UNCLEAR = "unclear"
-VERDICTS = (SRC, PROOF, OUTPUT, SURVIVED, UNCLEAR)
+VERDICTS = (SHOWN, SRC, PROOF, NAMES, OUTPUT, SURVIVED, HARMLESS, UNCLEAR)
 
 
 @dataclass
@@ -39,12 +44,22 @@ class Trial:
     says: str = ""
     facts: list = field(default_factory=list)  # in src: (place, what is not proved)
     unfit: list = field(default_factory=list)  # the same in proofs/ and specs/
+    lacking: str = ""  # the functions whose proof files were away
     log: str = ""
 
     @property
+    def shown_false(self):
+        return [it for it in self.facts if FALSE.search(it[1])]
+
+    @property
     def is_by_name(self):
-        """Whether all that is refused is that proof files name what the edit took away."""
-        return not self.facts and all(GONE.search(says) for _, says in self.unfit)
+        """Whether all that is sure is that proof files name what the edit took away."""
+        return not self.shown_false and all(GONE.search(says) for _, says in self.unfit)
+
+    def own_proofs(self):
+        """The proof files that are refused, each with its function; none if theory is refused."""
+        found = [OWN_PROOF.match(place) for place, _ in self.unfit]
+        return dict(it.groups() for it in found) if all(found) else {}
 
 
 def run(words, folder, seconds, **how):
@@ -80,9 +95,11 @@ def judged(edit, wrote, status, seconds):
         place, name, text = broken[0]
         trial.verdict, trial.place, trial.says = NO_BUG, place, f"[{name}] {text}"
     elif unfit:
-        trial.verdict, (trial.place, trial.says) = PROOF, unfit[0]
+        trial.verdict = NAMES if trial.is_by_name else PROOF
+        trial.place, trial.says = unfit[0]
     elif facts:
-        trial.verdict, (trial.place, trial.says) = SRC, facts[0]
+        trial.verdict = SHOWN if trial.shown_false else SRC
+        trial.place, trial.says = (trial.shown_false or facts)[0]
     else:
         trial.says = next(iter(lines[-1:]), "rt check wrote nothing")
     return trial
@@ -94,6 +111,9 @@ def mend(folder):
     if mark.exists():
         left = json.loads(mark.read_text(encoding="utf-8"))
         (folder / left["file"]).write_text(left["text"], encoding="utf-8")
+        for n, place in enumerate(left.get("away", ())):
+            if (folder / f"away-{n}").exists():
+                (folder / f"away-{n}").rename(folder / place)
         mark.unlink()
 
 
@@ -107,39 +127,68 @@ class Tree:
         self.proved = set()
 
     @contextmanager
-    def planted(self, edit):
-        file = self.folder / edit.file
-        text = file.read_text(encoding="utf-8")
-        mark = json.dumps({"file": edit.file, "text": text})
+    def changed(self, edit, is_planted, away=()):
+        """The edit stands, or not, and files of its crate are away."""
+        text = (self.folder / edit.file).read_text(encoding="utf-8")
+        places = [f"crates/{edit.crate}/{it}" for it in away]
+        mark = json.dumps({"file": edit.file, "text": text, "away": places})
         (self.folder / MARK).write_text(mark, encoding="utf-8")
         try:
-            new = text[: edit.start] + edit.new + text[edit.end :]
-            file.write_text(new, encoding="utf-8")
+            for n, place in enumerate(places):
+                (self.folder / place).rename(self.folder / f"away-{n}")
+            if is_planted:
+                new = text[: edit.start] + edit.new + text[edit.end :]
+                (self.folder / edit.file).write_text(new, encoding="utf-8")
             yield
         finally:
             mend(self.folder)
 
-    def check(self, crate):
-        words = ["rt", "check", "--jobs", str(self.processors)]
+    def check(self, crate, *more):
+        words = ["rt", "check", *more, "--jobs", str(self.processors)]
         wrote, status = run(words, self.folder / "crates" / crate, self.seconds)
         return wrote.decode("utf-8", errors="replace"), status
 
     def try_edit(self, edit):
+        mend(self.folder)
         if edit.crate not in self.proved:
             wrote, status = self.check(edit.crate)
             if status != 0:
                 return Trial(edit, UNCLEAR, 0, says="not proved without the edit", log=wrote)
             self.proved.add(edit.crate)
-        with self.planted(edit):
+        trial = self.plant(edit)
+        own = trial.own_proofs() if trial.verdict == NAMES else {}
+        if own:
+            trial = self.again(edit, trial, own)
+        if trial.verdict == SURVIVED:
+            self.proved.discard(edit.crate)
+        return trial
+
+    def plant(self, edit, away=()):
+        with self.changed(edit, True, away):
             begun = time.monotonic()
             wrote, status = self.check(edit.crate)
             trial = judged(edit, wrote, status, time.monotonic() - begun)
             folder = self.folder / "crates" / edit.crate
             if trial.verdict == SURVIVED and (folder / "src/main.rt").exists():
                 run_program(folder, edit.crate, trial, self.seconds)
-        if trial.verdict == SURVIVED:
-            self.proved.discard(edit.crate)
         return trial
+
+    def again(self, edit, first, own):
+        """Without the proof files that are refused, behind which a survivor could hide."""
+        paths = sorted({it.replace("/", "::") for it in own.values()})
+        trial = self.plant(edit, own)
+        trial.lacking = ", ".join(paths)
+        trial.seconds += first.seconds
+        log = f"{first.log}\n\nwithout the proof files of {trial.lacking}:\n\n{trial.log}"
+        proves = trial.verdict in (SURVIVED, OUTPUT)
+        if trial.verdict in (SHOWN, SRC):
+            # what is not proved tells of the edit only if all is proved where it is not planted
+            with self.changed(edit, False, own):
+                names = [f"{edit.crate}::{it}" for it in paths]
+                proves = all(self.check(edit.crate, "--only", it)[1] == 0 for it in names)
+        kept = trial if proves else first
+        kept.log = log
+        return kept
 
 
 def content(file):
@@ -178,7 +227,6 @@ def run_program(folder, name, trial, seconds):
 
 def copy_tree(source, place):
     """Copies a tree with what its checks kept, so that only what an edit changes is proved anew."""
-    shutil.rmtree(place, ignore_errors=True)
     shutil.copytree(source / "crates", place / "crates", symlinks=True)
     for name in ("crates.txt", "HANDLES"):
         if (source / name).exists():
@@ -188,15 +236,11 @@ def copy_tree(source, place):
 @contextmanager
 def copies(root, tree, number):
     """As many trees as there are jobs: the one named, or else a copy of the root; and copies."""
+    if tree:
+        mend(tree)
     # not in the repository, whose gate refuses sources that stand beside its crates
-    first = tree or Path(tempfile.gettempdir()) / "planted/tree"
-    made = [] if tree else [(root, first)]
-    made += [(first, first.with_name(f"{first.name}-{n}")) for n in range(2, number + 1)]
-    mend(first)
-    try:
-        for source, place in made:
-            copy_tree(source, place)
-        yield [first, *(place for _, place in made if place != first)]
-    finally:
-        for _, place in made:
-            shutil.rmtree(place, ignore_errors=True)
+    with tempfile.TemporaryDirectory(prefix="plant-", ignore_cleanup_errors=True) as room:
+        made = [Path(room) / str(n) for n in range(2 if tree else 1, number + 1)]
+        for place in made:
+            copy_tree(tree or root, place)
+        yield [tree, *made] if tree else made
