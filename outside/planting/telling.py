@@ -36,7 +36,8 @@ def show_trial(trial, text):
     reason = f": {trial.says}" if trial.verdict == HARMLESS else ""
     print(f"    {trial.verdict}{reason}, {trial.seconds:.0f} s")
     if trial.lacking:
-        print(f"    without the proof files of {trial.lacking}")
+        nor = "nor is it proved " if trial.verdict == NAMES else ""
+        print(f"    {nor}without the proof files of {trial.lacking}")
     if trial.says and not reason:
         print(f"    {trial.place}{': ' if trial.place else ''}{squeezed(trial.says, 300)}")
     if trial.facts:

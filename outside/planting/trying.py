@@ -177,7 +177,7 @@ class Tree:
         """Without the proof files that are refused, behind which a survivor could hide."""
         paths = sorted({it.replace("/", "::") for it in own.values()})
         trial = self.plant(edit, own)
-        trial.lacking = ", ".join(paths)
+        trial.lacking = first.lacking = ", ".join(paths)
         trial.seconds += first.seconds
         log = f"{first.log}\n\nwithout the proof files of {trial.lacking}:\n\n{trial.log}"
         proves = trial.verdict in (SURVIVED, OUTPUT)
