@@ -1,4 +1,6 @@
 pub mod Listed
+pub mod ListedNew
 pub mod Pages
 pub mod Prepared
+pub mod Programs
 pub mod Told

@@ -1,1 +1,2 @@
 pub mod Circles
+pub mod Chains

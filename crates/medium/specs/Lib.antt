@@ -1,5 +1,6 @@
 pub mod Lanes
 pub mod Puts
+pub mod Calls
 pub mod Held
 pub mod Faults
 pub mod Fates

@@ -1,11 +1,14 @@
 -- The calls that a turn makes of its medium.
-use Rattle.std.specs.Prelude.{◌≡◌, ℕ, suc, Bool, true, false, not, ◌&&◌, ◌==◌}
+use Rattle.std.specs.Prelude.{◌≡◌, ℕ, zero, suc, ◌+◌, Bool, true, false, cond, not, ◌&&◌, ◌==◌, List, [], ◌∷◌, ◌++◌}
+use Rattle.std.specs.Prelude.{length, replicate}
 use Rattle.element.specs.Algebra.{Algebra}
+use Rattle.medium.specs.Calls.{Call, take_call, put_call}
+use Rattle.medium.specs.Lanes.{Lanes}
 use Rattle.medium.specs.Puts.{Puts, Takes}
 use Rattle.medium.specs.declared.frame.Frame.{Frame}
 use Rattle.plan.specs.Links.{Shape}
 use Rattle.protocol.specs.Runs.{Moment, seen}
-use Rattle.protocol.specs.Turns.{puts, frame}
+use Rattle.protocol.specs.Turns.{State, puts, frame}
 
 -- takes from lanes to board p, and no other call, lead from m to n
 pub data TakesTo {D : Type 0} (takes : Takes D) (p : ℕ) (m : D) : D → Type 0 where
@@ -30,3 +33,20 @@ TurnCalls {M} {D} A P takes puts_of p m m' d d' =
     (between : D)
     × TakesTo takes p d between
     × PutsBelow puts_of p (puts A P (seen A m) (seen A m') p) (frame A P (seen A m) (seen A m') p) between P.boards d'
+
+-- board p takes from the lane of each other board below k, ascending: once for each frame that waits there, and once
+-- more, which finds none
+abbrev pub take_calls : Lanes → ℕ → ℕ → List Call
+take_calls lanes p zero = []
+take_calls lanes p (suc q) =
+    take_calls lanes p q ++ cond (q == p) [] (replicate (length (lanes q p) + 1) (take_call q p))
+
+-- board p puts one frame to each other board below k to which one is due, ascending
+abbrev pub put_calls : (ℕ → Bool) → (ℕ → Frame) → ℕ → ℕ → List Call
+put_calls due frame p zero = []
+put_calls due frame p (suc q) =
+    put_calls due frame p q ++ cond (not (q == p) && due q) (put_call p q (frame q) ∷ []) []
+
+-- the calls of a turn of p that leads from s to u
+abbrev pub turn_calls : {M : Type 0} → Algebra M → Shape → State M → State M → ℕ → List Call
+turn_calls A P s u p = take_calls s.lane p P.boards ++ put_calls (puts A P s u p) (frame A P s u p) p P.boards
