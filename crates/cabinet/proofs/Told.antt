@@ -3,7 +3,7 @@ use Rattle.std.proofs.Common.{◌≡◌, ℕ, ◌≤◌, true, false, cond, ◌&
 use Rattle.std.proofs.Common.{Err, sym, refl, ap, ◌∙◌, subst, arith}
 use Rattle.std.proofs.lemmas.List.{take_at}
 use Rattle.std.proofs.lemmas.Bool.{both_ways}
-use Rattle.medium.specs.Lanes.{Lanes}
+use Rattle.medium.specs.Calls.{Rules}
 use Rattle.scene.specs.Cells.{Scene, Sound}
 use Rattle.scene.specs.Layout.{scene_of}
 use Rattle.scene.specs.Rules.{Rule, all_hold, admits, scene_rules, verdict}
@@ -53,15 +53,14 @@ no_fault (r ∷ rs) e =
     (elim r.0 as (λ t. (t && all_hold rs ≡ true) → cond t (verdict rs) (Err r.1) ≡ Ok tt)
     [ true ↦ no_fault rs | false ↦ (λ x. absurd (both_ways false refl x)) ]) e
 
-module _ (bytes : List ℕ) (lanes : Lanes) where
-  scene_told : (page : List ℕ) → admits bytes ≡ true → SceneTold (scene_of bytes) lanes page
-      → PageTold bytes lanes page
+module _ {D : Type 0} (R : Rules D) (bytes : List ℕ) (d : D) where
+  scene_told : (page : List ℕ) → admits bytes ≡ true → SceneTold R (scene_of bytes) d page → PageTold R bytes d page
   scene_told page ok told =
-      subst (λ v. Told v (scene_of bytes) lanes page) (sym (no_fault (scene_rules bytes) ok)) told
+      subst (λ v. Told R v (scene_of bytes) d page) (sym (no_fault (scene_rules bytes) ok)) told
 
   pub run_told : (page : List ℕ) → admits bytes ≡ true → length (laid_copies (scene_of bytes)) ≤ record_room
-      → length (laid_edges (scene_of bytes)) ≤ record_room → KindTold (scene_of bytes) lanes page
-      → PageTold bytes lanes page
+      → length (laid_edges (scene_of bytes)) ≤ record_room → KindTold R (scene_of bytes) d page
+      → PageTold R bytes d page
   run_told page ok few_copies few_edges told = scene_told page ok record {
     many_copies = λ l. absurd (omega arith);
     many_edges = λ _ l. absurd (omega arith);
@@ -70,9 +69,9 @@ module _ (bytes : List ℕ) (lanes : Lanes) where
 
   pub refusal_told : (f : Refusal) (copies : List CopyRecord) (edges : List Edge)
       → length copies ≡ record_room → length edges ≡ record_room → Hindrance bytes f copies edges
-      → PageTold bytes lanes (refused_page f)
+      → PageTold R bytes d (refused_page f)
   refusal_told (SceneRefused f) copies edges cn en broken =
-      subst (λ v. Told v (scene_of bytes) lanes (refused_page (SceneRefused f))) (sym broken) refl
+      subst (λ v. Told R v (scene_of bytes) d (refused_page (SceneRefused f))) (sym broken) refl
   refusal_told (Lay (Copies n)) copies edges cn en (ok, (needed, short)) = scene_told _ ok record {
     many_copies = λ _. ap (λ k. refused_page (Lay (Copies k))) needed;
     many_edges = λ l _. absurd (omega (arith, l, needed, short, cn));

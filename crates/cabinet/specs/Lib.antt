@@ -1,5 +1,4 @@
 pub mod Listed
-pub mod ListedNew
 pub mod Pages
 pub mod Prepared
 pub mod Programs

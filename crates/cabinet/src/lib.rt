@@ -5,6 +5,7 @@ pub mod listed;
 mod outcome;
 mod page;
 pub mod prepare;
+pub mod programs;
 
 pub use circles::settle;
 pub use refusals::refusal;

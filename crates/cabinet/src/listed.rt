@@ -1,6 +1,7 @@
 // The listing of a scene's run.
 ghost use Rattle.std.specs.Prelude.{◌≡◌, ◌≤◌, ◌++◌, length, IfOk};
 ghost use Rattle.scene.specs.Views.{viewed};
+ghost use Rattle.medium.specs.Calls.{rules_of};
 ghost use Rattle.exchange.specs.Going.{LaidPlan};
 ghost use Rattle.cabinet.specs.Pages.{Paged, boards_page, head_page, refused_page, reports};
 ghost use Rattle.cabinet.specs.Listed.{EveryRunOfEachKind, record_room, RunTold, KindTold, PageTold};
@@ -8,6 +9,7 @@ ghost use Rattle.cabinet.specs.Listed.{EveryRunOfEachKind, record_room, RunTold,
 use crate::outcome::{Outcome, Run};
 use crate::page::add_line;
 use crate::prepare::prepare;
+use circles::goal::AllSettled;
 use circles::settle::settle;
 use element::depth::Depth;
 use element::element::Element;
@@ -94,13 +96,14 @@ fn list_run<E: Element, D: Medium + Drop>(
         plan.now.edges.now }
     requires kind { (viewed scene.now).kind ≡ E.Element.algebra.kind }
     requires room { length plan.now.copies.now ≤ length values.old }
-    ensures { Paged result (RunTold E.Element.algebra (viewed scene.now)
-        (D.Medium.lanes medium)) }
+    ensures { Paged result (RunTold E.algebra (rules_of D.lanes D.takes D.puts)
+        (viewed scene.now) medium) }
 {
+    let values = &mut values[..plan.copies().len()];
     let mut medium = medium;
     let mut table = LinkTable::new();
     let mut turning = begin(scene, plan, &mut table, &medium, values)?;
-    let _ = settle(&mut turning, plan, &mut table, &mut medium, values, CIRCLES);
+    let _ = settle(&mut turning, plan, &mut table, &mut medium, values, &AllSettled, CIRCLES);
     let numbers = PlanNumbers {
         boards: scene.boards(),
         overlap: scene.overlap(),
@@ -120,7 +123,7 @@ fn list_plan<'a, D: Medium + Drop>(
 ) -> Result<Result<Vec<u8>, AllocError>, Refusal>
     requires laid { LaidPlan (viewed scene.now) (viewed scene.now).boards copies.now edges.now }
     requires room { length copies.now ≤ record_room }
-    ensures { Paged result (KindTold (viewed scene.now) (D.Medium.lanes medium)) }
+    ensures { Paged result (KindTold (rules_of D.lanes D.takes D.puts) (viewed scene.now) medium) }
 {
     let mut plan: PlanView = PlanView::new();
     plan.take(scene.boards(), copies, edges)?;
@@ -155,7 +158,7 @@ fn list_scene<D: Medium + Drop>(
     bytes: &[u8],
     medium: D,
 ) -> Result<Result<Vec<u8>, AllocError>, Refusal>
-    ensures { Paged result (PageTold bytes.now (D.Medium.lanes medium)) }
+    ensures { Paged result (PageTold (rules_of D.lanes D.takes D.puts) bytes.now medium) }
 {
     let mut copies = [CopyRecord {
         board: 0,
@@ -182,7 +185,7 @@ fn list_scene<D: Medium + Drop>(
 // The listing of the scene that the bytes say, run over this medium; or the one line of a refusal.
 #[tactic(auto, using(crate::proofs::Runs::each_kind_keeps_the_promise))]
 pub fn list<D: Medium + Drop>(heap: Global, bytes: &[u8], medium: D) -> Result<Vec<u8>, AllocError>
-    ensures told { IfOk result (λ page. PageTold bytes.now (D.Medium.lanes medium) page.items) }
+    ensures told { IfOk result (λ page. PageTold (rules_of D.lanes D.takes D.puts) bytes.now medium page.items) }
     ensures promise { EveryRunOfEachKind }
 {
     match list_scene(heap, bytes, medium) {

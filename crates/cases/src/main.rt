@@ -1,11 +1,7 @@
 // Runs each scene named by an argument as both programs do, and prints one line of what they list.
 #![tactic(auto)]
 
-use cabinet::listed::list;
-use medium::medium::Medium;
-use medium::queue::Queue;
-use medium::quota::{Limit, Quota};
-use medium::script::Script;
+use cabinet::programs::{list_halo, list_rough};
 use std::{env, fs, io};
 
 // Each byte by its place, summed.
@@ -33,26 +29,18 @@ fn print_page(rt: &HostRuntime, page: &[u8]) -> io::Result<()> {
     }
 }
 
-fn print_listing<D: Medium + Drop>(rt: &HostRuntime, bytes: &[u8], medium: D) -> io::Result<()> {
-    let page = list(rt.alloc(), bytes, medium)?;
-    print_page(rt, &page)
-}
-
-fn print_case(rt: &HostRuntime, name: &str, limit: Limit) -> io::Result<()> {
+fn print_case(rt: &HostRuntime, name: &str) -> io::Result<()> {
     let bytes = fs::read(rt, name)?;
     print!(rt; "{name}: ")?;
-    print_listing(rt, &bytes, Quota::over(Queue::new(), limit))?;
+    print_page(rt, &list_halo(rt.alloc(), &bytes)?)?;
     print!(rt; "; rough: ")?;
-    print_listing(rt, &bytes, Script::over(Quota::over(Queue::new(), limit)))?;
+    print_page(rt, &list_rough(rt.alloc(), &bytes)?)?;
     println!(rt; "")
 }
 
 fn main(rt: HostRuntime) -> io::Result<()> {
-    let Ok(limit) = Limit::new(8) else {
-        unreachable!()
-    };
     for name in env::args(&rt)?.skip(1) {
-        print_case(&rt, name.as_str(), limit)?;
+        print_case(&rt, name.as_str())?;
     }
     Ok(())
 }

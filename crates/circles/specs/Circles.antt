@@ -1,82 +1,58 @@
--- Circles of turns, each board once, ascending.
-use Rattle.std.specs.Prelude.{◌≡◌, ℕ, zero, suc, ◌+◌, ◌*◌, ◌<◌, ◌≤◌, ◌⊎◌, Bool, true, false, not, List, [], ◌++◌}
-use Rattle.std.specs.Prelude.{length, Some, Ok, Err, Result, nat_lt}
+-- Circles of turns, each board once, ascending: what the calls that make them answer, and what they leave.
+use Rattle.std.specs.Prelude.{◌≡◌, ℕ, zero, suc, ◌+◌, ◌<◌, ◌≤◌, Bool, true, false, cond, List, [], ◌++◌, length}
+use Rattle.std.specs.Prelude.{Option, Some, None, Ok, Err, Result, nat_le}
 use Rattle.std.specs.List.{range_with_len}
 use Rattle.element.specs.Algebra.{Algebra}
+use Rattle.medium.specs.Calls.{Rules}
 use Rattle.plan.specs.Links.{shape}
 use Rattle.plan.specs.declared.records.CopyRecord.{CopyRecord}
 use Rattle.plan.specs.declared.records.Edge.{Edge}
-use Rattle.scene.specs.Cells.{Scene}
-use Rattle.protocol.specs.Books.{lowest_unsettled}
 use Rattle.protocol.specs.Faults.{turn_limit}
-use Rattle.protocol.specs.Runs.{Moment, Turn, turn_fault, accepted_in}
+use Rattle.protocol.specs.Runs.{accepted_in}
 use Rattle.protocol.specs.declared.fault.RunFault.{RunFault}
-use Rattle.exchange.specs.Going.{LaidPlan, Carried}
+use Rattle.protocol.specs.declared.fault.RunFault.TheVariants.{Short, Turns}
+use Rattle.circles.specs.Chains.{Snapshot, TurnsLead, CirclesLead}
+use Rattle.circles.specs.declared.settle.Ending.{Ending}
+use Rattle.circles.specs.declared.settle.Ending.TheVariants.{Met, Limit, OutOfTurns}
+use Rattle.circles.specs.declared.settle.Settling.{Settling}
 
 -- the boards that turn in k ascending circles
 abbrev pub circles : ℕ → ℕ → List ℕ
 circles boards zero = []
 circles boards (suc k) = circles boards k ++ range_with_len 0 boards
 
--- one of the next n turns is refused: none is left for it, or the memory is too short for the copies
-abbrev pub RefusedWithin : {M : Type 0} → List CopyRecord → ℕ → Moment M → Type 0
-RefusedWithin copies n m = (turn_limit < m.tally.turns + n) ⊎ (length m.copies < length copies)
+-- too little memory for the plan's copies
+abbrev pub room_fault : {M D : Type 0} → List CopyRecord → Snapshot M D → Option RunFault
+room_fault records x = cond (nat_le (length records) (length x.copies)) None (Some (Short (length records)))
 
--- one circle carries every run of the laid plan on; refused on the way, by the turns made till then
-abbrev pub Circled : {M : Type 0} → Algebra M → ℕ → List CopyRecord → List Edge → Moment M → Moment M
-    → Result (Unit {0}) RunFault → Type 0
-Circled A boards copies edges m m' (Ok _) =
-    (m'.tally.turns ≡ m.tally.turns + boards)
-    × ((s : Scene) → LaidPlan s boards copies edges → Carried A s m m' (range_with_len 0 boards))
-Circled A boards copies edges m m' (Err _) =
-    RefusedWithin copies boards m
-    × ((s : Scene) → LaidPlan s boards copies edges → (us : List ℕ) × Carried A s m m' us)
+-- why a circle is refused: too little memory for the plan's copies, then too few turns left for all boards
+abbrev pub circle_fault : {M D : Type 0} → ℕ → List CopyRecord → Snapshot M D → Option RunFault
+circle_fault boards records x =
+    cond (nat_le (length records) (length x.copies))
+    (cond (nat_le (x.tally.turns + boards) turn_limit) None (Some Turns))
+    (Some (Short (length records)))
 
--- some board is not settled, by the table
-abbrev pub unsettled : {M : Type 0} → ℕ → List Edge → Moment M → Bool
-unsettled boards edges m = nat_lt (lowest_unsettled (shape boards edges) (accepted_in m.links)) boards
+module _ {M D : Type 0} (A : Algebra M) (R : Rules D) (boards : ℕ) (records : List CopyRecord) (edges : List Edge)
+  where
+    -- one turn of each board, ascending; refused, all stays as it was
+    abbrev pub CircleAnswers : Snapshot M D → Snapshot M D → Result (Unit {0}) RunFault → Type 0
+    CircleAnswers x y (Ok _) = (circle_fault boards records x ≡ None) × TurnsLead A R (shape boards edges) x boards y
+    CircleAnswers x y (Err f) = (circle_fault boards records x ≡ Some f) × (y ≡ x)
 
--- circles until every board is settled, or as many as allowed; it says whether they are
-abbrev pub Settles : {M : Type 0} → Algebra M → ℕ → List CopyRecord → List Edge → ℕ → Moment M → Moment M
-    → Result Bool RunFault → Type 0
-Settles A boards copies edges limit m m' (Ok settled) =
-    (settled ≡ not (unsettled boards edges m'))
-    × ((s : Scene) → LaidPlan s boards copies edges
-    → (k : ℕ) × (k ≤ limit) × (settled ≡ false → k ≡ limit) × Carried A s m m' (circles boards k))
-Settles A boards copies edges limit m m' (Err _) =
-    RefusedWithin copies (limit * boards) m
-    × ((s : Scene) → LaidPlan s boards copies edges → (us : List ℕ) × Carried A s m m' us)
+    -- why no further circle was made at y, after k: the test holds; or as many were made as allowed; or too few turns
+    -- are left for all boards
+    abbrev pub EndsBy : ((ℕ → ℕ → ℕ) → Bool) → ℕ → ℕ → Snapshot M D → Ending → Type 0
+    EndsBy met limit k y Met = met (accepted_in y.links) ≡ true
+    EndsBy met limit k y Limit = (met (accepted_in y.links) ≡ false) × (k ≡ limit)
+    EndsBy met limit k y OutOfTurns =
+        (met (accepted_in y.links) ≡ false) × (k < limit) × (turn_limit < y.tally.turns + boards)
 
-module _ {M : Type 0} (A : Algebra M) (boards : ℕ) (records : List CopyRecord) (edges : List Edge) where
-  -- accepted turns of the boards below k, ascending, each made where the one before it led
-  pub data Ascending (m : Moment M) : ℕ → Moment M → Type 0 where
-    no_turn : Ascending m 0 m
-    next_turn : (p : ℕ) (m₁ m₂ : Moment M) → Ascending m p m₁ → Turn A (shape boards edges) p m₁ m₂
-        → Ascending m (suc p) m₂
-
-  -- these turns lead from m to m', and carry every run of the laid plan on
-  pub record TurnedBelow (k : ℕ) (m m' : Moment M) : Type 0 where
-    pub made : Ascending m k m'
-    pub turns : m'.tally.turns ≡ m.tally.turns + k
-    pub carried : (s : Scene) → LaidPlan s boards records edges → Carried A s m m' (range_with_len 0 k)
-
-  -- one circle; or those below some board have turned, and its turn is refused
-  abbrev pub CircleAnswers : Moment M → Moment M → Result (Unit {0}) RunFault → Type 0
-  CircleAnswers m m' (Ok _) = TurnedBelow boards m m'
-  CircleAnswers m m' (Err f) =
-      (p : ℕ) × (p < boards) × TurnedBelow p m m' × (turn_fault boards records p m' ≡ Some f)
-
-  -- circles, before each of which some board is not settled
-  pub data UnsettledCircles (m : Moment M) : ℕ → Moment M → Type 0 where
-    none : UnsettledCircles m 0 m
-    one_more : (k : ℕ) (m₁ m₂ : Moment M) → UnsettledCircles m k m₁ → unsettled boards edges m₁ ≡ true
-        → TurnedBelow boards m₁ m₂ → UnsettledCircles m (suc k) m₂
-
-  -- circles until every board is settled, or as many as allowed; it says whether they are
-  abbrev pub SettleAnswers : ℕ → Moment M → Moment M → Result Bool RunFault → Type 0
-  SettleAnswers limit m m' (Ok settled) =
-      (settled ≡ not (unsettled boards edges m'))
-      × ((k : ℕ) × (k ≤ limit) × (settled ≡ false → k ≡ limit) × UnsettledCircles m k m')
-  SettleAnswers limit m m' (Err f) =
-      (k : ℕ) × (k < limit) × ((m₁ : Moment M)
-      × UnsettledCircles m k m₁ × (unsettled boards edges m₁ ≡ true) × CircleAnswers m₁ m' (Err f))
+    -- circles until the test holds, or as many as allowed, or as there are turns for; refused, all stays as it was
+    abbrev pub SettleAnswers : ((ℕ → ℕ → ℕ) → Bool) → ℕ → Snapshot M D → Snapshot M D → Result Settling RunFault
+        → Type 0
+    SettleAnswers met limit x y (Ok e) =
+        (room_fault records x ≡ None)
+        × (e.circles ≤ limit)
+        × CirclesLead A R (shape boards edges) met x e.circles y
+        × EndsBy met limit e.circles y e.ending
+    SettleAnswers met limit x y (Err f) = (room_fault records x ≡ Some f) × (y ≡ x)

@@ -1,2 +1,2 @@
-pub mod Circles
 pub mod Chains
+pub mod Circles

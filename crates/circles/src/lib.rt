@@ -1,4 +1,5 @@
 // Circles: the boards turn in ascending order, round after round, until all are settled.
 #![tactic(auto)]
 
+pub mod goal;
 pub mod settle;

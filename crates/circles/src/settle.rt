@@ -1,17 +1,38 @@
-// Ascending circles, until every board is settled.
-ghost use Rattle.circles.specs.Circles.{CircleAnswers, Circled, SettleAnswers, Settles};
-ghost use Rattle.protocol.specs.Promise.{EveryRunKeepsThePromise};
-ghost use Rattle.protocol.specs.Runs.{moment};
+// Ascending circles, until what they are made for is met.
+ghost use Rattle.std.specs.Prelude.{◌≡◌, Some, None, MatchResult};
+ghost use Rattle.medium.specs.Calls.{rules_of};
+ghost use Rattle.plan.specs.Links.{shape};
+ghost use Rattle.circles.specs.Chains.{snapshot};
+ghost use Rattle.circles.specs.Circles.{CircleAnswers, SettleAnswers, circle_fault, room_fault};
 
+use crate::goal::Goal;
 use element::element::Element;
 use exchange::run::Turning;
 use medium::medium::Medium;
 use plan::view::PlanView;
-use protocol::fault::RunFault;
+use protocol::fault::{RunFault, TURN_LIMIT};
+use protocol::room::check_room;
 use protocol::table::LinkTable;
 
-// One turn of each board, ascending. Where one is refused, those made till then stand.
-// Kept: these five parameters, as callers and clauses have them.
+// Why no further circle was made.
+#[derive(Clone, Copy, PartialEq, Eq)]
+pub enum Ending {
+    // what they are made for is met
+    Met,
+    // as many were made as allowed
+    Limit,
+    // too few turns are left for all boards
+    OutOfTurns,
+}
+
+// How circles came to an end, and how many were made.
+#[derive(Clone, Copy, PartialEq, Eq)]
+pub struct Settling {
+    pub ending: Ending,
+    pub circles: usize,
+}
+
+// One turn of each board, ascending. Refused for short memory, or where turns do not suffice for all boards.
 pub fn circle<E: Element, D: Medium>(
     turning: &mut Turning,
     plan: &PlanView,
@@ -19,51 +40,49 @@ pub fn circle<E: Element, D: Medium>(
     medium: &mut D,
     copies: &mut [E],
 ) -> Result<(), RunFault>
-    ensures told { Circled E.Element.algebra plan.now.boards plan.now.copies.now
-        plan.now.edges.now (moment turning.old.tally table.old.links
-        copies.old (D.Medium.lanes medium.old))
-        (moment turning.new.tally table.new.links copies.new
-        (D.Medium.lanes medium.new)) result }
-    ensures exact { CircleAnswers E.Element.algebra plan.now.boards plan.now.copies.now
-        plan.now.edges.now (moment turning.old.tally table.old.links
-        copies.old (D.Medium.lanes medium.old))
-        (moment turning.new.tally table.new.links copies.new
-        (D.Medium.lanes medium.new)) result }
+    ensures exact { CircleAnswers E.algebra (rules_of D.lanes D.takes D.puts)
+        plan.now.boards plan.now.copies.now plan.now.edges.now
+        (snapshot turning.old.tally table.old.links copies.old medium.old)
+        (snapshot turning.new.tally table.new.links copies.new medium.new) result }
 {
-    // Kept: a `for`, since the closure of `try_for_each` would capture all five.
+    check_room(plan, copies.len())?;
+    if TURN_LIMIT - turning.tally().turns < plan.boards() {
+        return Err(RunFault::Turns);
+    }
     for p in 0..plan.boards() {
-        turning.turn(plan, table, medium, copies, p)?;
+        let Ok(_) = turning.turn(plan, table, medium, copies, p) else {
+            unreachable!()
+        };
     }
     Ok(())
 }
 
-// Circles until every board is settled, looked at before each, or as many as allowed; says whether all are settled.
-// Where a circle is refused, the turns made till then stand.
-pub fn settle<E: Element, D: Medium>(
+// Circles until the goal is met, which is looked at before each and after the last; or as many as allowed.
+// Refused for short memory alone.
+pub fn settle<E: Element, D: Medium, G: Goal>(
     turning: &mut Turning,
     plan: &PlanView,
     table: &mut LinkTable,
     medium: &mut D,
     copies: &mut [E],
+    goal: &G,
     limit: usize,
-) -> Result<bool, RunFault>
-    ensures told { Settles E.Element.algebra plan.now.boards plan.now.copies.now
-        plan.now.edges.now limit (moment turning.old.tally table.old.links
-        copies.old (D.Medium.lanes medium.old))
-        (moment turning.new.tally table.new.links copies.new
-        (D.Medium.lanes medium.new)) result }
-    ensures exact { SettleAnswers E.Element.algebra plan.now.boards plan.now.copies.now
-        plan.now.edges.now limit (moment turning.old.tally table.old.links
-        copies.old (D.Medium.lanes medium.old))
-        (moment turning.new.tally table.new.links copies.new
-        (D.Medium.lanes medium.new)) result }
-    ensures promise { EveryRunKeepsThePromise E E.Element.algebra }
+) -> Result<Settling, RunFault>
+    ensures exact { SettleAnswers E.algebra (rules_of D.lanes D.takes D.puts)
+        plan.now.boards plan.now.copies.now plan.now.edges.now
+        (G.met (shape plan.now.boards plan.now.edges.now)) limit
+        (snapshot turning.old.tally table.old.links copies.old medium.old)
+        (snapshot turning.new.tally table.new.links copies.new medium.new) result }
 {
-    for _ in 0..limit {
-        if turning.all_settled(plan, table) {
-            return Ok(true);
+    check_room(plan, copies.len())?;
+    for circles in 0..limit {
+        if goal.is_met(turning, plan, table) {
+            return Ok(Settling { ending: Ending::Met, circles });
         }
-        circle(turning, plan, table, medium, copies)?;
+        let Ok(()) = circle(turning, plan, table, medium, copies) else {
+            return Ok(Settling { ending: Ending::OutOfTurns, circles });
+        };
     }
-    Ok(turning.all_settled(plan, table))
+    let ending = if goal.is_met(turning, plan, table) { Ending::Met } else { Ending::Limit };
+    Ok(Settling { ending, circles: limit })
 }

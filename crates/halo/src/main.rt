@@ -1,19 +1,13 @@
-// Lists the run of a scene from standard input, over Quota 8 over Queue.
+// Lists the run of a scene from standard input, over a quota of 8 over a queue.
 #![tactic(auto)]
 
-use cabinet::listed::list;
-use medium::queue::Queue;
-use medium::quota::{Limit, Quota};
+use cabinet::programs::list_halo;
 use std::io;
 use std::io::{Read, Write};
 
-// Kept: alike but for the medium. Both are short, and each is a crate of its own.
 fn main(rt: HostRuntime) -> io::Result<()> {
     let mut bytes = Vec::new(rt.alloc());
     rt.stdin().read_to_end(&mut bytes)?;
-    let Ok(limit) = Limit::new(8) else {
-        unreachable!()
-    };
-    let page = list(rt.alloc(), &bytes, Quota::over(Queue::new(), limit))?;
+    let page = list_halo(rt.alloc(), &bytes)?;
     rt.stdout().write_all(&page)
 }

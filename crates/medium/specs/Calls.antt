@@ -1,6 +1,6 @@
 -- Calls of a medium, one after the other, and what its rules make of them.
-use Rattle.std.specs.Prelude.{◌≡◌, ◌≢◌, ℕ, true, List, [], ◌∷◌, ◌++◌}
-use Rattle.medium.specs.Lanes.{Lanes, appended, is_lane, shortened}
+use Rattle.std.specs.Prelude.{◌≡◌, ◌≢◌, ℕ, Bool, true, false, List, [], ◌∷◌, ◌++◌}
+use Rattle.medium.specs.Lanes.{Lanes, appended, empty_lanes, is_lane, shortened}
 use Rattle.medium.specs.Puts.{Puts, Takes}
 use Rattle.medium.specs.declared.frame.Frame.{Frame}
 
@@ -17,6 +17,10 @@ rules_of lanes takes puts = record { lanes = lanes; takes = takes; puts = puts }
 pub data Call : Type 0 where
   take_call : (from to : ℕ) → Call
   put_call : (from to : ℕ) (frame : Frame) → Call
+
+abbrev pub is_put : Call → Bool
+is_put (take_call from to) = false
+is_put (put_call from to f) = true
 
 module _ {D : Type 0} (R : Rules D) where
   -- one call leads from d to e, by what is said of every medium and by what this one says of itself
@@ -37,6 +41,10 @@ LooksLike {D} {E} R d S e = (cs : List Call) (d' : D) (e' : E)
 -- the rules leave nothing open that a later call can see
 abbrev pub IsDecided : {D : Type 0} → Rules D → D → Type 0
 IsDecided R d = LooksLike R d R d
+
+-- no calls tell it from any other value in whose lanes no frame waits
+abbrev pub LooksLikeEachEmpty : {D : Type 0} → Rules D → D → Type 0
+LooksLikeEachEmpty {D} R d = (e : D) → R.lanes e ≡ empty_lanes → LooksLike R d R e
 
 -- a put to a lane in which no frame waits leaves one at least
 abbrev pub FillsEmptyLanes : {D : Type 0} → Rules D → Type 0

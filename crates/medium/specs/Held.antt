@@ -2,6 +2,7 @@
 use Rattle.std.specs.Prelude.{◌≡◌, ℕ, ◌+◌, ◌*◌, Bool, false, cond, ◌&&◌, List, [], ◌∷◌, ◌++◌, map, length}
 use Rattle.std.specs.Prelude.{nat_lt, slice_index_or}
 use Rattle.arrayvec.specs.ArrayVec.{ArrayVec}
+use Rattle.medium.specs.Calls.{Rules, rules_of}
 use Rattle.medium.specs.Lanes.{Lanes, appended, is_lane, shortened}
 use Rattle.medium.specs.Puts.{Puts, Takes}
 use Rattle.medium.specs.declared.frame.Frame.{Frame}
@@ -46,3 +47,7 @@ queue_puts s from to f k t =
 -- a take from a queue removes the oldest frame
 abbrev pub queue_takes : Takes Queue
 queue_takes s from to t = (queue_lanes t ≡ shortened (queue_lanes s) from to) × OutsideKept s from to t
+
+-- the rules of a queue
+abbrev pub queue_rules : Rules Queue
+queue_rules = rules_of queue_lanes queue_takes queue_puts

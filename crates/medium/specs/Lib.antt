@@ -3,7 +3,9 @@ pub mod Puts
 pub mod Calls
 pub mod Held
 pub mod Faults
+pub mod Quotas
 pub mod Fates
+pub mod Scripts
 pub mod Tables
 pub mod Appending
 pub mod Slots

@@ -2,7 +2,6 @@
 ghost use Rattle.std.specs.Prelude.{◌≡◌, [], ◌∷◌, Ok, Err};
 ghost use Rattle.element.specs.Numbers.{first_of, last_of};
 ghost use Rattle.medium.specs.Lanes.{first, shortened};
-ghost use Rattle.medium.specs.Puts.{Rationed};
 ghost use Rattle.medium.specs.Faults.{IsLimit, quota_numbers};
 
 use crate::frame::Frame;
@@ -56,30 +55,36 @@ impl Limit {
 }
 
 #[derive(Drop)]
-pub struct Quota<M: Medium> {
+pub struct Quota<M> {
     below: M,
     limit: Limit,
 }
 
 impl<M: Medium> Quota<M> {
+    ghost use Rattle.medium.specs.Calls.{rules_of, FillsEmptyLanes, IsDecided};
+    ghost use Rattle.medium.specs.Quotas.{quota_rules, LooksLikeTwinQuotas};
+
     pub fn over(below: M, limit: Limit) -> Quota<M>
-        ensures { (result.below ≡ below) × (result.limit ≡ limit) }
+        ensures parts { (result.below ≡ below) × (result.limit ≡ limit) }
+        ensures alike { let R = rules_of M.Medium.lanes M.Medium.takes M.Medium.puts in
+            LooksLikeTwinQuotas R result }
+        ensures decided { let R = rules_of M.Medium.lanes M.Medium.takes M.Medium.puts in
+            IsDecided R below → IsDecided (quota_rules R) result }
+        ensures fills { let R = rules_of M.Medium.lanes M.Medium.takes M.Medium.puts in
+            FillsEmptyLanes R → FillsEmptyLanes (quota_rules R) }
     {
         Quota { below, limit }
     }
 }
 
 impl<M: Medium> Medium for Quota<M> {
-    ghost lanes = { λ s. M.Medium.lanes s.below };
+    ghost use Rattle.medium.specs.Quotas.{quota_lanes, quota_puts, quota_takes};
 
-    // The limit stays; a put that meets it leaves the medium below alone, and every other is one to the medium below.
-    ghost puts = { λ s from to f k t.
-        (t.limit ≡ s.limit)
-        × Rationed M.Medium.lanes M.Medium.puts s.limit.frames s.below from to f k t.below };
+    ghost lanes = { quota_lanes M.Medium.lanes };
 
-    // The limit stays; a take is one from the medium below.
-    ghost takes = { λ s from to t.
-        (t.limit ≡ s.limit) × M.Medium.takes s.below from to t.below };
+    ghost puts = { quota_puts M.Medium.lanes M.Medium.puts };
+
+    ghost takes = { quota_takes M.Medium.takes };
 
     ghost few = { λ s. M.Medium.few s.below };
 

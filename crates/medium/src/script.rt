@@ -1,8 +1,8 @@
 // A medium over any medium that passes, drops or doubles its puts, by a table.
 ghost use Rattle.std.specs.Prelude.{◌≡◌, ◌<◌, length};
 ghost use Rattle.medium.specs.Lanes.{Allowed, appended, first, shortened};
-ghost use Rattle.medium.specs.Puts.{Doubled, Scripted};
-ghost use Rattle.medium.specs.Fates.{code, entry, entry_after, table};
+ghost use Rattle.medium.specs.Puts.{Doubled};
+ghost use Rattle.medium.specs.Fates.{code, entry, table};
 
 use crate::frame::Frame;
 use crate::medium::Medium;
@@ -44,7 +44,7 @@ fn fate_of(n: usize) -> Fate
 }
 
 #[derive(Drop)]
-pub struct Script<M: Medium> {
+pub struct Script<M> {
     below: M,
     // The number of the next put, modulo the table's length.
     // Kept: counted, since an iterator round the table is no plainer: the specs go by the entry's number.
@@ -53,8 +53,17 @@ pub struct Script<M: Medium> {
 }
 
 impl<M: Medium> Script<M> {
+    ghost use Rattle.medium.specs.Calls.{rules_of, IsDecided};
+    ghost use Rattle.medium.specs.Scripts.{script_rules, FollowsTheTable, LooksLikeTwinScripts};
+
     pub fn over(below: M) -> Script<M>
-        ensures { (result.below ≡ below) × (result.next ≡ 0) }
+        ensures parts { (result.below ≡ below) × (result.next ≡ 0) }
+        ensures alike { let R = rules_of M.Medium.lanes M.Medium.takes M.Medium.puts in
+            LooksLikeTwinScripts R result }
+        ensures decided { let R = rules_of M.Medium.lanes M.Medium.takes M.Medium.puts in
+            IsDecided R below → IsDecided (script_rules R) result }
+        ensures follows { let R = rules_of M.Medium.lanes M.Medium.takes M.Medium.puts in
+            FollowsTheTable R result }
     {
         Script { below, next: 0 }
     }
@@ -64,7 +73,7 @@ impl<M: Medium> Script<M> {
 fn put_twice<M: Medium>(below: &mut M, from: usize, to: usize, frame: Frame) -> usize
     ensures count { Allowed from to result }
     ensures after { M.Medium.lanes below.new ≡ appended (M.Medium.lanes below.old) from to frame result }
-    ensures made { Doubled M.Medium.puts below.old from to frame result below.new }
+    ensures made { Doubled M.Medium.lanes M.Medium.puts below.old from to frame result below.new }
 {
     let one = below.put(from, to, frame);
     let two = below.put(from, to, frame);
@@ -72,16 +81,13 @@ fn put_twice<M: Medium>(below: &mut M, from: usize, to: usize, frame: Frame) -> 
 }
 
 impl<M: Medium> Medium for Script<M> {
-    ghost lanes = { λ s. M.Medium.lanes s.below };
+    ghost use Rattle.medium.specs.Scripts.{script_lanes, script_puts, script_takes};
 
-    // Every put moves on by one entry, and follows the entry that it met.
-    ghost puts = { λ s from to f k t.
-        (t.next ≡ entry_after s.next)
-        × Scripted M.Medium.puts (entry s.next) s.below from to f k t.below };
+    ghost lanes = { script_lanes M.Medium.lanes };
 
-    // A take uses up no entry, and is one from the medium below.
-    ghost takes = { λ s from to t.
-        (t.next ≡ s.next) × M.Medium.takes s.below from to t.below };
+    ghost puts = { script_puts M.Medium.lanes M.Medium.puts };
+
+    ghost takes = { script_takes M.Medium.takes };
 
     ghost few = { λ s. M.Medium.few s.below };
 

@@ -3,6 +3,9 @@ ghost use Rattle.std.specs.Prelude.{◌≡◌, slice_index};
 ghost use Rattle.element.specs.Numbers.{last_of};
 ghost use Rattle.protocol.specs.Faults.{run_numbers};
 
+// How many turns a run has.
+pub const TURN_LIMIT: usize = 1_000_000;
+
 #[derive(Clone, Copy, PartialEq, Eq)]
 pub enum RunFault {
     // the scene has elements of this kind, the copies of another
@@ -45,7 +48,7 @@ impl RunFault {
             RunFault::Short { needed } => *needed,
             RunFault::Waiting { from: _, to } => *to,
             RunFault::Board { given } => *given,
-            RunFault::Turns => 1000000,
+            RunFault::Turns => TURN_LIMIT,
             RunFault::Early { board } => *board,
         }
     }

@@ -3,5 +3,6 @@
 #![tactic(auto)]
 
 pub mod fault;
+pub mod room;
 pub mod table;
 pub mod tally;

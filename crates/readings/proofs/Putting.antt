@@ -36,7 +36,7 @@ code_at_most_2 : (n : ℕ) → entry (n % length table) ≤ 2
 code_at_most_2 n = All-get_or (λ x. x ≤ 2) table (n % length table) 0 (omega arith) (search arith)
 
 by_code : (n : ℕ) (s : Queue) (from to : ℕ) (f : Frame) (k : ℕ) (t : Queue)
-    → Scripted ration (entry (n % length table)) s from to f k t → k ≡ rough n (queue_lanes s) from to f
+    → Scripted queue_lanes ration (entry (n % length table)) s from to f k t → k ≡ rough n (queue_lanes s) from to f
 by_code n s from to f k t r =
     let code = entry (n % length table) in
     elim (cases_eq code 0) [

@@ -34,4 +34,4 @@ pub record PutsByTheRules : Type 0 where
   pub of_plain : (n : ℕ) (s : Queue) (from to : ℕ) (f : Frame) (k : ℕ) (t : Queue)
       → ration s from to f k t → k ≡ plain n (queue_lanes s) from to f
   pub of_rough : (n : ℕ) (s : Queue) (from to : ℕ) (f : Frame) (k : ℕ) (t : Queue)
-      → Scripted ration (entry (n % length table)) s from to f k t → k ≡ rough n (queue_lanes s) from to f
+      → Scripted queue_lanes ration (entry (n % length table)) s from to f k t → k ≡ rough n (queue_lanes s) from to f

@@ -1,41 +1,79 @@
--- What one board more adds to the calls so far.
-use Rattle.std.proofs.Common.{◌≡◌, ℕ, ◌+◌, ◌<◌, Bool, true, false, ◌≢◌, eqb, not, ◌&&◌, refl, sym, ap, ◌∙◌}
-use Rattle.std.proofs.Common.{add-one, inl, inr, arith}
+-- What one frame more, and one board more, add to the calls so far.
+use Rattle.std.proofs.Common.{◌≡◌, ℕ, zero, suc, ◌+◌, ◌<◌, ◌≤◌, Bool, true, false, cond, ◌≢◌, eqb, not, ◌&&◌, refl, sym}
+use Rattle.std.proofs.Common.{ap, ap₂, ◌∙◌, add-one, inl, inr, arith, List, [], ◌∷◌, ◌++◌, length, replicate, Some, None}
 use Rattle.std.proofs.lemmas.Bool.{cases_eq, eq-eqb, ne_eqb}
-use Rattle.medium.specs.Puts.{Puts}
+use Rattle.std.proofs.lemmas.List.{append-nil}
+use Rattle.element.specs.Algebra.{Algebra}
+use Rattle.medium.specs.Calls.{Rules, Call, take_call, put_call, Leads, Calls, no_call}
+use Rattle.medium.specs.Lanes.{Lanes}
 use Rattle.medium.specs.declared.frame.Frame.{Frame}
-use Rattle.turns.specs.Called.{PutsBelow, no_board, nothing_due, one_put}
+use Rattle.medium.proofs.Calling.{calls_then, call_made}
+use Rattle.plan.specs.declared.records.Edge.{Edge}
+use Rattle.protocol.specs.Steps.{Received, lanes_step}
+use Rattle.turns.specs.Called.{take_calls, put_calls}
 
-module _ {D : Type 0} (puts : Puts D) (p : ℕ) (due : ℕ → Bool) (frame : ℕ → Frame) (m : D) (q : ℕ) (n : D)
-    (so_far : PutsBelow puts p due frame m q n) where
-  abbrev Calls : ℕ → D → Type 0
-  Calls = PutsBelow puts p due frame m
+-- while the boards below k are served, the lanes from the others stay
+lanes_ahead : {M : Type 0} (A : Algebra M) (edges : List Edge) (p : ℕ) (r : Received M) (k q : ℕ) → k ≤ q
+    → (lanes_step A edges p k r).lanes q p ≡ r.lanes q p
+lanes_ahead A edges p r zero q l = refl
+lanes_ahead A edges p r (suc k) q l =
+    let before = lanes_ahead A edges p r k q (omega arith) in
+    elim (cases_eq k p) [
+      | inl e ↦ rw (eq-eqb k p e) before
+      | inr d ↦ rw (ne_eqb k p d, ne_eqb q k (λ e. omega arith)) before
+    ]
 
-  -- nothing is due to a board from itself
-  pub not_itself : q ≡ p → Calls (q + 1) n
-  not_itself e = rw (add-one q) (nothing_due q n so_far (rw (eq-eqb q p e) refl))
+module _ {D : Type 0} (R : Rules D) where
+  -- one call, and then the same k times more
+  pub one_call_more : {d e f : D} (c : Call) (k n : ℕ) → n ≡ suc k → Leads R c d e
+      → Calls R e (replicate (k + 1) c) f → Calls R d (replicate (n + 1) c) f
+  one_call_more c k n count leads later =
+      rw (count, add-one (suc k)) (calls_then (call_made leads) (rw (add-one k) at later))
 
-  module _ (apart : q ≢ p) where
-    pub put_called : (k : ℕ) (o : D) → due q ≡ true → puts n p q (frame q) k o → Calls (q + 1) o
-    put_called k o is call = rw (add-one q) (one_put q k n o so_far (rw (ne_eqb q p apart) is) call)
+  -- a board takes nothing from itself
+  pub no_take_from_itself : (lanes : Lanes) (p q : ℕ) {d e : D} → Calls R d (take_calls lanes p q) e → q ≡ p
+      → Calls R d (take_calls lanes p (q + 1)) e
+  no_take_from_itself lanes p q before same = rw (add-one q, eq-eqb q p same, append-nil (take_calls lanes p q)) before
 
-    pub none_called : (o : D) → due q ≡ false → o ≡ n → Calls (q + 1) o
-    none_called o is same = rw (add-one q, same) (nothing_due q n so_far (rw (ne_eqb q p apart) is))
+  -- the takes from one board more, as its lane is once the boards below it are served
+  pub takes_more : {M : Type 0} (A : Algebra M) (edges : List Edge) (p q : ℕ) (r r' : Received M) {d e f : D}
+      → r' ≡ lanes_step A edges p q r → Calls R d (take_calls r.lanes p q) e → q ≢ p
+      → Calls R e (replicate (length (r'.lanes q p) + 1) (take_call q p)) f → Calls R d (take_calls r.lanes p (q + 1)) f
+  takes_more {M = M} A edges p q r r' so_far before apart later =
+      let same = ap (λ (x : Received M). x.lanes q p) so_far ∙ lanes_ahead A edges p r q q (omega arith) in
+      rw (add-one q, ne_eqb q p apart) (calls_then before (rw same at later))
 
-due_same_at : (p q : ℕ) (b c : Bool) → (q ≢ p → b ≡ c) → (not (eqb q p) && b) ≡ (not (eqb q p) && c)
-due_same_at p q b c same = elim (cases_eq q p) [
-  | inl e ↦ rw (eq-eqb q p e) refl
-  | inr d ↦ ap (λ x. not (eqb q p) && x) (same d)
-]
+  -- a frame that was due was put, and where none was due no call was made
+  pub put_if_due : (due : Bool) (from to : ℕ) (f g : Frame) {d e : D} → Some g ≡ cond due (Some f) None
+      → Leads R (put_call from to g) d e → Calls R d (cond due (put_call from to f ∷ []) []) e
+  put_if_due true from to f g is leads =
+      let same : g ≡ f = cc in
+      rw (← same) (call_made leads)
+  put_if_due false from to f g is leads = cc
 
-module _ {D : Type 0} (puts : Puts D) (p : ℕ) (due due' : ℕ → Bool) (frame : ℕ → Frame) (m : D) where
-  -- it is enough that the same is due to the other boards
-  pub calls_same : (k : ℕ) (n : D) → ((q : ℕ) → q < k → q ≢ p → due q ≡ due' q)
-      → PutsBelow puts p due frame m k n → PutsBelow puts p due' frame m k n
-  calls_same k n same no_board = no_board
-  calls_same k n same (nothing_due q n' before none) =
-      nothing_due q n' (calls_same q n' (λ r l. same r (omega arith)) before)
-      (sym (due_same_at p q (due q) (due' q) (same q (omega arith))) ∙ none)
-  calls_same k n same (one_put q j n' o before is call) =
-      one_put q j n' o (calls_same q n' (λ r l. same r (omega arith)) before)
-      (sym (due_same_at p q (due q) (due' q) (same q (omega arith))) ∙ is) call
+  pub no_put_if_none : (due : Bool) (from to : ℕ) (f : Frame) {d : D} → None ≡ cond due (Some f) None
+      → Calls R d (cond due (put_call from to f ∷ []) []) d
+  no_put_if_none true from to f is = cc
+  no_put_if_none false from to f is = no_call
+
+  module _ (due : ℕ → Bool) (frame : ℕ → Frame) (p q : ℕ) {d e : D} (before : Calls R d (put_calls due frame p q) e)
+    where
+    -- nothing is due to a board from itself
+    pub no_put_to_itself : q ≡ p → Calls R d (put_calls due frame p (q + 1)) e
+    no_put_to_itself same = rw (add-one q, eq-eqb q p same, append-nil (put_calls due frame p q)) before
+
+    -- the put to one board more, if one is due
+    pub puts_more : {f : D} → q ≢ p → Calls R e (cond (due q) (put_call p q (frame q) ∷ []) []) f
+        → Calls R d (put_calls due frame p (q + 1)) f
+    puts_more apart later = rw (add-one q, ne_eqb q p apart) (calls_then before later)
+
+-- it is enough that the same is due to the other boards
+pub same_put_calls : (due due' : ℕ → Bool) (frame : ℕ → Frame) (p k : ℕ)
+    → ((q : ℕ) → q < k → q ≢ p → due q ≡ due' q) → put_calls due frame p k ≡ put_calls due' frame p k
+same_put_calls due due' frame p zero same = refl
+same_put_calls due due' frame p (suc k) same =
+    let before = same_put_calls due due' frame p k (λ q l. same q (omega arith)) in
+    elim (cases_eq k p) [
+      | inl e ↦ rw (eq-eqb k p e, before) refl
+      | inr d ↦ rw (ne_eqb k p d, before, same k (omega arith) d) refl
+    ]

@@ -14,7 +14,8 @@ first_and_rest : (fs : List Frame) (f : Frame) → Some f ≡ first fs → fs �
 first_and_rest [] f e = cc
 first_and_rest (g ∷ gs) f e = cc
 
-none_waits : (fs : List Frame) → None ≡ first fs → fs ≡ []
+-- the lane has no oldest frame
+pub none_waits : (fs : List Frame) → None ≡ first fs → fs ≡ []
 none_waits [] e = refl
 none_waits (g ∷ gs) e = cc
 

@@ -79,17 +79,18 @@ module _ {M : Type 0} (A : Algebra M) (boards : ℕ) (records : List CopyRecord)
     turned = turn_made A boards edges p pb no_tally no_tally links copies lanes lanes' got _ below made lost second
 
     -- to whom a frame is due, by what was received, is as the rules of a turn say
-    pub due_by_the_rules : (q : ℕ) → q < boards → q ≢ p
+    abbrev DueByTheRules : Type 0
+    DueByTheRules = (q : ℕ) → q < boards → q ≢ p
         → due A boards edges p links' got' q ≡ puts A (shape boards edges) (seen A m) (seen A m') p q
-    due_by_the_rules = same_due A boards edges p pb no_tally no_tally links copies lanes lanes' got _ below made lost
-        second
 
     pub turn_by_the_rules : TurnTaken A boards records edges p m m' (Ok numbers)
         × OwnCopiesAlone A boards records p lanes copies copies'
+        × DueByTheRules
     turn_by_the_rules = (
       (allowed, turned, below.as_many, numbers_are),
       record {
         others_stay = other_copies_stay A boards records edges sound p m m' turned;
         by_frames_alone = copies_stay_without_frames A boards records edges sound p m m' turned below.as_many;
       },
+      same_due A boards edges p pb no_tally no_tally links copies lanes lanes' got _ below made lost second,
     )

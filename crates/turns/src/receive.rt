@@ -2,7 +2,8 @@
 ghost use Rattle.std.specs.Prelude.{◌≡◌, ◌+◌, ◌<◌, ◌≤◌, false, cond, length, replicate, slice_set, Some, None};
 ghost use Rattle.protocol.specs.Frames.{brings, some_item, words_of};
 ghost use Rattle.protocol.specs.Steps.{held, told, grown, frame_step, frames_step, emptied, received, lanes_step};
-ghost use Rattle.turns.specs.Called.{TakesTo};
+ghost use Rattle.medium.specs.Calls.{Calls, rules_of, take_call};
+ghost use Rattle.turns.specs.Called.{take_calls};
 
 use crate::board::BoardView;
 use crate::link::{LinkView, bit_of};
@@ -89,8 +90,9 @@ fn take_lane<E: Element, D: Medium>(
     ensures taken { haul.new.taken ≡ haul.old.taken + length (D.Medium.lanes medium.old link.now.from link.now.to) }
     ensures got { haul.new.got ≡ slice_set haul.old.got link.now.from
         (some_item (D.Medium.lanes medium.old link.now.from link.now.to)) }
-    ensures calls { (d : D) → TakesTo D.Medium.takes link.now.to d medium.old
-        → TakesTo D.Medium.takes link.now.to d medium.new }
+    ensures calls { Calls (rules_of D.lanes D.takes D.puts) medium.old
+        (replicate (length (D.lanes medium.old link.now.from link.now.to) + 1)
+        (take_call link.now.from link.now.to)) medium.new }
     ensures few { haul.new.taken ≤ haul.old.taken + 64 }
 {
     let mut item = false;
@@ -114,7 +116,8 @@ impl BoardView<'_> {
             (D.Medium.lanes medium.new) result.taken result.got ≡ lanes_step E.Element.algebra
             self.now.plan.now.edges.now self.now.board self.now.plan.now.boards
             (received table.old.links copies.old 0 (D.Medium.lanes medium.old) 0 (replicate 8 false)) }
-        ensures calls { TakesTo D.Medium.takes self.now.board medium.old medium.new }
+        ensures calls { Calls (rules_of D.lanes D.takes D.puts) medium.old
+            (take_calls (D.lanes medium.old) self.now.board self.now.plan.now.boards) medium.new }
         ensures few { result.taken ≤ 512 }
     {
         let mut haul = Haul {

@@ -1,11 +1,12 @@
 // The second half of a turn: putting items and replies.
-ghost use Rattle.std.specs.Prelude.{◌≡◌, ◌+◌, ◌<◌, ◌≤◌, ◌||◌, ◌==◌, true, false, length, cond, nat_le, Some, None};
+ghost use Rattle.std.specs.Prelude.{◌≡◌, ◌+◌, ◌<◌, ◌≤◌, ◌||◌, ◌==◌, true, false, length, cond, nat_le, [], ◌∷◌, Some, None};
+ghost use Rattle.medium.specs.Calls.{Calls, rules_of, put_call};
 ghost use Rattle.medium.specs.Lanes.{appended};
 ghost use Rattle.plan.specs.Links.{edges_between};
 ghost use Rattle.protocol.specs.Runs.{accepted_in};
 ghost use Rattle.protocol.specs.Turns.{others};
 ghost use Rattle.protocol.specs.Steps.{Sent, due, due_frame, item_due, frame_due};
-ghost use Rattle.turns.specs.Called.{PutsBelow};
+ghost use Rattle.turns.specs.Called.{put_calls};
 
 use crate::board::BoardView;
 use crate::link::{LinkView, bit_of};
@@ -57,6 +58,7 @@ impl<E: Element> Sender<'_, E> {
     }
 
     // Puts what is due, if anything, and answers how many frames it left.
+    #[tactic(auto, using(crate::proofs::Calling::put_if_due, crate::proofs::Calling::no_put_if_none))]
     fn speak<D: Medium>(&self, medium: &mut D) -> Option<usize>
         ensures lanes { let is_due = item_due self.now.link.ups.now self.now.link.downs.now self.now.arrived
             self.now.gathered || self.now.got in
@@ -67,12 +69,13 @@ impl<E: Element> Sender<'_, E> {
                   (frame_due E.Element.algebra self.now.link.ups.now self.now.link.downs.now
                   self.now.arrived self.now.accepted self.now.gathered self.now.copies.now) k)
             ] }
-        ensures call { elim result [
-          | None ↦ medium.new ≡ medium.old
-          | Some k ↦ D.Medium.puts medium.old self.now.link.from self.now.link.to
-              (frame_due E.Element.algebra self.now.link.ups.now self.now.link.downs.now
-              self.now.arrived self.now.accepted self.now.gathered self.now.copies.now) k medium.new
-        ] }
+        ensures calls { Calls (rules_of D.lanes D.takes D.puts) medium.old
+            (cond (item_due self.now.link.ups.now self.now.link.downs.now self.now.arrived
+            self.now.gathered || self.now.got)
+            (put_call self.now.link.from self.now.link.to
+            (frame_due E.algebra self.now.link.ups.now self.now.link.downs.now
+            self.now.arrived self.now.accepted self.now.gathered self.now.copies.now) ∷ []) [])
+            medium.new }
     {
         let frame = self.next_frame()?;
         Some(medium.put(self.link.from, self.link.to, frame))
@@ -138,10 +141,11 @@ impl BoardView<'_> {
             (due_frame E.Element.algebra self.now.plan.now.boards self.now.plan.now.edges.now self.now.board
             table.now.links copies.now) (D.Medium.lanes medium.old)
             self.now.plan.now.boards (D.Medium.lanes medium.new) result.made result.lost }
-        ensures calls { PutsBelow D.Medium.puts self.now.board (due E.Element.algebra
-            self.now.plan.now.boards self.now.plan.now.edges.now self.now.board table.now.links got.now)
-            (due_frame E.Element.algebra self.now.plan.now.boards self.now.plan.now.edges.now self.now.board
-            table.now.links copies.now) medium.old self.now.plan.now.boards medium.new }
+        ensures calls { Calls (rules_of D.lanes D.takes D.puts) medium.old
+            (put_calls (due E.algebra self.now.plan.now.boards
+            self.now.plan.now.edges.now self.now.board table.now.links got.now)
+            (due_frame E.algebra self.now.plan.now.boards self.now.plan.now.edges.now self.now.board
+            table.now.links copies.now) self.now.board self.now.plan.now.boards) medium.new }
         ensures few { result.made ≤ 8 }
     {
         let gathered = self.has_gathered(table);

@@ -1,8 +1,9 @@
 // A turn of one board.
-ghost use Rattle.std.specs.Prelude.{◌≡◌, ◌≤◌, Some, None, Ok, Err};
-ghost use Rattle.protocol.specs.Runs.{moment, no_tally};
+ghost use Rattle.std.specs.Prelude.{◌≡◌, ◌≤◌, Some, None, Ok, Err, IfOk, OnOk, OnErr};
+ghost use Rattle.medium.specs.Calls.{Calls, rules_of};
+ghost use Rattle.protocol.specs.Runs.{moment, no_tally, seen};
 ghost use Rattle.plan.specs.Links.{shape};
-ghost use Rattle.turns.specs.Called.{TurnCalls};
+ghost use Rattle.turns.specs.Called.{turn_calls};
 ghost use Rattle.turns.specs.Taken.{taking_fault, TurnTaken, OwnCopiesAlone};
 
 use crate::board::BoardView;
@@ -35,7 +36,8 @@ fn check_turn<'a>(
     Ok(BoardView { plan, board })
 }
 
-// Board `board` takes all that waits for it, then puts what is due.
+// Board `board` takes all that waits for it, then puts what is due. Outside of a run no turn is counted: a run's limit
+// of turns is its caller's to keep.
 pub fn take_turn<E: Element, D: Medium>(
     plan: &PlanView,
     table: &mut LinkTable,
@@ -50,19 +52,13 @@ pub fn take_turn<E: Element, D: Medium>(
     ensures alone { OwnCopiesAlone E.Element.algebra plan.now.boards
         plan.now.copies.now board (D.Medium.lanes medium.old) copies.old
         copies.new }
-    ensures still { elim result [ Ok _ ↦ Unit {0} | Err _ ↦ medium.new ≡ medium.old ] }
-    ensures calls { elim result [
-      | Ok _ ↦ TurnCalls E.Element.algebra (shape plan.now.boards plan.now.edges.now)
-          D.Medium.takes D.Medium.puts board
-          (moment no_tally table.old.links copies.old (D.Medium.lanes medium.old))
-          (moment no_tally table.new.links copies.new (D.Medium.lanes medium.new))
-          medium.old medium.new
-      | Err _ ↦ Unit {0}
-    ] }
-    ensures few { elim result [
-      | Ok n ↦ (n.lost ≤ n.puts) × (n.puts ≤ 8) × (n.accepted ≤ 512)
-      | Err _ ↦ Unit {0}
-    ] }
+    ensures still { OnErr result (medium.new ≡ medium.old) }
+    ensures calls { OnOk result (Calls (rules_of D.lanes D.takes D.puts) medium.old
+        (turn_calls E.algebra (shape plan.now.boards plan.now.edges.now)
+        (seen E.algebra (moment no_tally table.old.links copies.old (D.lanes medium.old)))
+        (seen E.algebra (moment no_tally table.new.links copies.new (D.lanes medium.new)))
+        board) medium.new) }
+    ensures few { IfOk result (λ n. (n.lost ≤ n.puts) × (n.puts ≤ 8) × (n.accepted ≤ 512)) }
 {
     let own = check_turn(plan, copies.len(), board)?;
     let haul = own.receive(table, medium, copies);

@@ -1,10 +1,11 @@
 // A turn of one board, counted in the run's tally.
-ghost use Rattle.std.specs.Prelude.{◌≡◌, ◌<◌, ◌≤◌, ◌&&◌, Ok, Err, nat_le, nat_lt};
+ghost use Rattle.std.specs.Prelude.{◌≡◌, ◌<◌, ◌≤◌, ◌&&◌, nat_le, nat_lt, OnOk, OnErr};
+ghost use Rattle.medium.specs.Calls.{Calls, rules_of};
 ghost use Rattle.scene.specs.Cells.{Scene};
 ghost use Rattle.protocol.specs.Faults.{turn_limit};
-ghost use Rattle.protocol.specs.Runs.{moment, tallied};
+ghost use Rattle.protocol.specs.Runs.{moment, seen, tallied};
 ghost use Rattle.plan.specs.Links.{shape};
-ghost use Rattle.turns.specs.Called.{TurnCalls};
+ghost use Rattle.turns.specs.Called.{turn_calls};
 ghost use Rattle.turns.specs.Taken.{OwnCopiesAlone};
 ghost use Rattle.exchange.specs.Calls.{TurnAnswers};
 ghost use Rattle.exchange.specs.Going.{GoesOn, LaidPlan};
@@ -59,15 +60,12 @@ impl Turning {
         ensures alone { OwnCopiesAlone E.Element.algebra plan.now.boards
             plan.now.copies.now board (D.Medium.lanes medium.old) copies.old
             copies.new }
-        ensures still { elim result [ Ok _ ↦ Unit {0} | Err _ ↦ medium.new ≡ medium.old ] }
-        ensures calls { elim result [
-          | Ok _ ↦ TurnCalls E.Element.algebra (shape plan.now.boards plan.now.edges.now)
-              D.Medium.takes D.Medium.puts board
-              (moment self.old.tally table.old.links copies.old (D.Medium.lanes medium.old))
-              (moment self.new.tally table.new.links copies.new (D.Medium.lanes medium.new))
-              medium.old medium.new
-          | Err _ ↦ Unit {0}
-        ] }
+        ensures still { OnErr result (medium.new ≡ medium.old) }
+        ensures calls { OnOk result (Calls (rules_of D.lanes D.takes D.puts) medium.old
+            (turn_calls E.algebra (shape plan.now.boards plan.now.edges.now)
+            (seen E.algebra (moment self.old.tally table.old.links copies.old (D.lanes medium.old)))
+            (seen E.algebra (moment self.new.tally table.new.links copies.new (D.lanes medium.new)))
+            board) medium.new) }
         ensures promise { (s : Scene) → LaidPlan s plan.now.boards
             plan.now.copies.now plan.now.edges.now → GoesOn E.Element.algebra s board
             (moment self.old.tally table.old.links copies.old

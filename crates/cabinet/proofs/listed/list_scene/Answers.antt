@@ -1,6 +1,7 @@
 -- The bytes' own scene and its laid plan are run; or the line tells why not.
 use Rattle.std.proofs.Common.{◌≡◌, true, refl, ap, subst}
 use Rattle.std.proofs.lemmas.Result.{err_from_is_err_and}
+use Rattle.medium.specs.Calls.{rules_of}
 use Rattle.scene.specs.Cells.{Scene}
 use Rattle.scene.specs.Layout.{scene_of}
 use Rattle.scene.specs.Rules.{admits}
@@ -24,15 +25,16 @@ returns g c =
     let prepared = c.in_ok-counts.ensures in
     let same : viewed c.prepare.new.scene ≡ scene_of c.args.bytes.now =
     ap (λ b. scene_of b.now) prepared.0 in
-    let lanes = g.D.Medium.lanes c.args.medium in
+    let R = rules_of g.D.Medium.lanes g.D.Medium.takes g.D.Medium.puts in
     let ok : admits c.args.bytes.now ≡ true =
     subst (λ b. admits b ≡ true) (ap (λ x. x.now) prepared.0) c.prepare.new.scene.ok in
-    paged_weaker c.list_plan.result _ _ (λ page told. run_told c.args.bytes.now lanes page ok
+    paged_weaker c.list_plan.result _ _ (λ page told. run_told R c.args.bytes.now c.args.medium page ok
     prepared.1.copy_room prepared.1.edge_room
-    (subst (λ (s : Scene). KindTold s lanes page) same told)) c.list_plan.ensures
+    (subst (λ (s : Scene). KindTold R s c.args.medium page) same told)) c.list_plan.ensures
 
 pub returns-in_err-counts : goal.returns-in_err-counts
 returns-in_err-counts g c =
     let failed = err_from_is_err_and c.from_residual.result c.from_residual.ensures.1 in
-    rw (failed.1, failed.2) (refusal_told c.args.bytes.now (g.D.Medium.lanes c.args.medium) _ _ _ refl refl
+    rw (failed.1, failed.2) (refusal_told (rules_of g.D.Medium.lanes g.D.Medium.takes g.D.Medium.puts)
+    c.args.bytes.now c.args.medium _ _ _ refl refl
     c.in_err-counts.ensures.hindered)

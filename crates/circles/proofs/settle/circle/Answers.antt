@@ -1,25 +1,35 @@
--- One board more.
-use Rattle.std.proofs.Common.{◌≡◌, length, arith}
-use Rattle.std.proofs.lemmas.Result.{err_from_is_err_and}
-use Rattle.circles.proofs.Turns.{no_board_turned, next_board_turned, next_board_refused}
+-- One board more; with room and turns for all boards none is refused.
+use Rattle.std.proofs.Common.{◌≡◌, ℕ, ◌+◌, length, add-one, sym, ap, subst, arith}
+use Rattle.medium.specs.Calls.{rules_of}
+use Rattle.plan.specs.Links.{shape}
+use Rattle.protocol.specs.declared.tally.Tally.{Tally}
+use Rattle.circles.specs.Chains.{TurnsLead, moment_at, no_turn, next_turn, snapshot}
+use Rattle.circles.proofs.Turns.{not_refused, turns_counted}
 use Rattle.circles.proofs.settle.circle.Goals as goal
 
 pub loop-p-init : goal.loop-p-init
-loop-p-init g c =
-    let plan = c.args.plan.now in
-    no_board_turned g.E.Element.algebra g.met.E.Element.lawful plan.boards plan.copies.now
-    plan.edges.now _
+loop-p-init g c = no_turn
 
-pub returns-in_err-turn-clause-told : goal.returns-in_err-turn-clause-told
-returns-in_err-turn-clause-told g c =
+pub unreachable-requires : goal.unreachable-requires
+unreachable-requires g c =
     let plan = c.args.plan.now in
-    let same : length c.turn.new.copies ≡ length c.args.copies.now = omega arith in
-    let failed = err_from_is_err_and c.from_residual.result c.from_residual.ensures.1 in
-    rw failed.1 (next_board_refused g.E.Element.algebra g.met.E.Element.lawful plan.boards plan.copies.now
-    plan.edges.now _ _ _ c.loop-p.p _ (omega arith) same c.loop-p.invariant c.in_err-turn.ensures.exact)
+    let A = g.E.Element.algebra in
+    let R = rules_of g.D.Medium.lanes g.D.Medium.takes g.D.Medium.puts in
+    let x = snapshot c.args.turning.now.tally c.args.table.now.links c.args.copies.now c.args.medium.now in
+    let y = snapshot c.loop-p.turning.tally c.loop-p.table.links c.loop-p.copies c.loop-p.medium in
+    let turns = turns_counted A R (shape plan.boards plan.edges.now) x y c.loop-p.p c.loop-p.invariant in
+    let asked : c.tally.result.turns ≡ x.tally.turns = ap (λ (t : Tally). t.turns) c.tally.ensures in
+    let kept : length y.copies ≡ length x.copies = omega arith in
+    not_refused A plan.boards plan.copies.now plan.edges.now c.loop-p.p (moment_at R y) _ c.in_default.field-0
+    (omega arith) (omega arith) (omega (arith, c.in_ok-check_room.ensures.ok)) c.in_default.ensures.exact
 
 pub loop-p-preserved : goal.loop-p-preserved
 loop-p-preserved g c =
     let plan = c.args.plan.now in
-    next_board_turned g.E.Element.algebra g.met.E.Element.lawful plan.boards plan.copies.now plan.edges.now _ _ _
-    c.loop-p.p c.in_ok-turn.field-0 c.loop-p.invariant c.in_ok-turn.ensures.exact c.in_ok-turn.ensures.promise
+    let A = g.E.Element.algebra in
+    let R = rules_of g.D.Medium.lanes g.D.Medium.takes g.D.Medium.puts in
+    let x = snapshot c.args.turning.now.tally c.args.table.now.links c.args.copies.now c.args.medium.now in
+    let y = snapshot c.loop-p.turning.tally c.loop-p.table.links c.loop-p.copies c.loop-p.medium in
+    let z = snapshot c.turn.new.self.tally c.turn.new.table.links c.turn.new.copies c.turn.new.medium in
+    subst (λ (k : ℕ). TurnsLead A R (shape plan.boards plan.edges.now) x k z) (sym (add-one c.loop-p.p))
+    (next_turn c.loop-p.p y z c.loop-p.invariant record { turn = c.in-Ok.ensures.exact.1; calls = c.in-Ok.ensures.calls })

@@ -1,20 +1,12 @@
--- So far as many circles were made as the loop counts, and before each some board was not settled.
-use Rattle.protocol.specs.Promise.{EveryRunKeepsThePromise}
-use Rattle.protocol.specs.Runs.{moment}
-use Rattle.scene.specs.Cells.{Scene}
-use Rattle.exchange.specs.Going.{LaidPlan, Carried}
-use Rattle.circles.specs.Circles.{UnsettledCircles, circles}
+-- So far as many circles were made as the loop counts, the goal not being met before each.
+use Rattle.medium.specs.Calls.{rules_of}
+use Rattle.plan.specs.Links.{shape}
+use Rattle.circles.specs.Chains.{CirclesLead, snapshot}
 use Rattle.circles.proofs.settle.settle.Given as goal
 
-abbrev pub invariant-loop : goal.invariant-loop
-invariant-loop g l =
-    let A = g.E.Element.algebra in
-    let lanes = g.D.Medium.lanes in
-    let start = moment l.initial.turning.tally l.initial.table.links l.initial.copies (lanes l.initial.medium) in
-    let now = moment l.turning.tally l.table.links l.copies (lanes l.medium) in
-    record {
-      rounds : UnsettledCircles A l.plan.boards l.plan.copies.now l.plan.edges.now start l.counter now;
-      promise : EveryRunKeepsThePromise _ A;
-      carried : (s : Scene) → LaidPlan s l.plan.boards l.plan.copies.now l.plan.edges.now
-          → Carried A s start now (circles l.plan.boards l.counter);
-    }
+abbrev pub invariant-loop-circles : goal.invariant-loop-circles
+invariant-loop-circles g l =
+    let P = shape l.plan.boards l.plan.edges.now in
+    CirclesLead g.E.Element.algebra (rules_of g.D.Medium.lanes g.D.Medium.takes g.D.Medium.puts) P (g.G.Goal.met P)
+    (snapshot l.initial.turning.tally l.initial.table.links l.initial.copies l.initial.medium) l.circles
+    (snapshot l.turning.tally l.table.links l.copies l.medium)

@@ -1,8 +1,8 @@
 -- What is left in the lane gives, from here, what the whole lane gives from the start.
-use Rattle.std.proofs.Common.{◌≡◌, ◌+◌, ◌≤◌, ◌||◌, length}
+use Rattle.std.proofs.Common.{◌≡◌, ◌+◌, ◌≤◌, ◌||◌, length, replicate}
+use Rattle.medium.specs.Calls.{Calls, rules_of, take_call}
 use Rattle.protocol.specs.Frames.{some_item}
 use Rattle.protocol.specs.Steps.{emptied, held, frames_step}
-use Rattle.turns.specs.Called.{TakesTo}
 use Rattle.turns.proofs.receive.take_lane.Given as goal
 
 abbrev pub invariant-loop-frame : goal.invariant-loop-frame
@@ -11,6 +11,7 @@ invariant-loop-frame g l =
     let p = l.link.to in
     let was = g.D.Medium.lanes l.initial.medium in
     let now = g.D.Medium.lanes l.medium in
+    let rules = rules_of g.D.Medium.lanes g.D.Medium.takes g.D.Medium.puts in
     let steps = frames_step g.E.Element.algebra l.link.ups.now l.link.downs.now p q in
     record {
       held_so : steps (now q p) (held l.table.links l.copies l.haul.accepted)
@@ -19,8 +20,8 @@ invariant-loop-frame g l =
       item_so : (l.item || some_item (now q p)) ≡ some_item (was q p);
       taken_so : l.haul.taken + length (now q p) ≡ l.initial.haul.taken + length (was q p);
       got_so : l.haul.got ≡ l.initial.haul.got;
-      calls : (d : g.row.D.Denot) → TakesTo g.D.Medium.takes p d l.initial.medium
-          → TakesTo g.D.Medium.takes p d l.medium;
+      calls : (d : g.row.D.Denot) → Calls rules l.medium (replicate (length (now q p) + 1) (take_call q p)) d
+          → Calls rules l.initial.medium (replicate (length (was q p) + 1) (take_call q p)) d;
       short : length (was q p) ≤ 64;
     }
 
