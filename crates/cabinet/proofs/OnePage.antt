@@ -7,7 +7,8 @@ use Rattle.element.specs.Algebra.{Algebra}
 use Rattle.element.specs.Kinds.{is_kind}
 use Rattle.element.specs.Models.{force_algebra, depth_algebra, tags_algebra}
 use Rattle.std.specs.Prelude.{nat_le}
-use Rattle.medium.specs.Calls.{Rules, LooksLike, no_call}
+use Rattle.medium.specs.Calls.{Rules, LooksLike}
+use Rattle.medium.proofs.Calling.{alike_lanes}
 use Rattle.medium.specs.Lanes.{Lanes}
 use Rattle.scene.specs.Cells.{Scene, Sound}
 use Rattle.scene.specs.Layout.{scene_of}
@@ -30,7 +31,7 @@ use Rattle.refusals.specs.declared.refusal.Refusal.TheVariants.{Run}
 
 module _ {D E : Type 0} (R : Rules D) (S : Rules E) (d : D) (e : E) (alike : LooksLike R d S e) where
   same_lanes : R.lanes d ≡ S.lanes e
-  same_lanes = alike [] d e no_call no_call
+  same_lanes = alike_lanes R S d e alike
 
   module _ {M : Type 0} (A : Algebra M) (s : Scene) where
     one_listing : (x y : List ℕ) → Listed A R s d x → Listed A S s e y → x ≡ y

@@ -23,10 +23,10 @@ use Rattle.protocol.specs.declared.fault.RunFault.{RunFault}
 use Rattle.std.proofs.lemmas.List.{drop_all, length-map}
 use Rattle.protocol.specs.declared.table.Link.{Link}
 use Rattle.protocol.proofs.Theorem.{promise_holds}
+use Rattle.sums.specs.Sums.{load_fault}
 use Rattle.exchange.specs.Calls.{FirstWaiting, IdleBefore}
 use Rattle.exchange.specs.Going.{LaidPlan, Kept, BeginAnswers}
 use Rattle.exchange.specs.declared.run.Turning.{Turning}
-use Rattle.exchange.specs.Loading.{load_fault}
 use Rattle.listing.specs.declared.lines.PlanNumbers.{PlanNumbers}
 use Rattle.circles.specs.Chains.{Snapshot, snapshot, moment_at, CirclesLead, all_settled}
 use Rattle.circles.specs.Circles.{SettleAnswers, EndsBy, room_fault}

@@ -2,15 +2,18 @@
 ghost use Rattle.std.specs.Prelude.{◌≡◌, ◌≤◌, ◌++◌, length, IfOk};
 ghost use Rattle.scene.specs.Views.{viewed};
 ghost use Rattle.medium.specs.Calls.{rules_of};
+ghost use Rattle.plan.specs.Links.{shape};
 ghost use Rattle.exchange.specs.Going.{LaidPlan};
+ghost use Rattle.circles.specs.Chains.{all_settled, snapshot};
+ghost use Rattle.circles.specs.Circles.{SettleAnswers};
 ghost use Rattle.cabinet.specs.Pages.{Paged, boards_page, head_page, refused_page, reports};
-ghost use Rattle.cabinet.specs.Listed.{EveryRunOfEachKind, record_room, RunTold, KindTold, PageTold};
+ghost use Rattle.cabinet.specs.Listed.{EveryRunOfEachKind, circle_limit, record_room, RunTold, KindTold, PageTold};
 
 use crate::outcome::{Outcome, Run};
 use crate::page::add_line;
 use crate::prepare::prepare;
 use circles::goal::AllSettled;
-use circles::settle::settle;
+use circles::settle::{Settling, settle};
 use element::depth::Depth;
 use element::element::Element;
 use element::force::Force;
@@ -23,6 +26,7 @@ use listing::lines::{PlanNumbers, refusal_line};
 use medium::medium::Medium;
 use plan::records::{CopyRecord, Edge};
 use plan::view::PlanView;
+use protocol::fault::RunFault;
 use protocol::table::LinkTable;
 use refusals::refusal::Refusal;
 use scene::view::SceneView;
@@ -83,6 +87,23 @@ fn list_turned<'a, E: Element>(
     }
 }
 
+// Circles until every board is settled, or as many as are made at most.
+fn settle_all<E: Element, D: Medium>(
+    turning: &mut Turning,
+    plan: &PlanView,
+    table: &mut LinkTable,
+    medium: &mut D,
+    values: &mut [E],
+) -> Result<Settling, RunFault>
+    ensures { SettleAnswers E.algebra (rules_of D.lanes D.takes D.puts)
+        plan.now.boards plan.now.copies.now plan.now.edges.now
+        (all_settled (shape plan.now.boards plan.now.edges.now)) circle_limit
+        (snapshot turning.old.tally table.old.links values.old medium.old)
+        (snapshot turning.new.tally table.new.links values.new medium.new) result }
+{
+    settle(turning, plan, table, medium, values, &AllSettled, CIRCLES)
+}
+
 // Runs a scene with elements of one type, and lists what its boards hold at the end.
 // Kept, here and below: a result in a result. A refusal is listed too, and for any page there may be no memory.
 fn list_run<E: Element, D: Medium + Drop>(
@@ -103,7 +124,7 @@ fn list_run<E: Element, D: Medium + Drop>(
     let mut medium = medium;
     let mut table = LinkTable::new();
     let mut turning = begin(scene, plan, &mut table, &medium, values)?;
-    let _ = settle(&mut turning, plan, &mut table, &mut medium, values, &AllSettled, CIRCLES);
+    let _ = settle_all(&mut turning, plan, &mut table, &mut medium, values);
     let numbers = PlanNumbers {
         boards: scene.boards(),
         overlap: scene.overlap(),

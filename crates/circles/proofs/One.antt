@@ -4,31 +4,14 @@ use Rattle.std.proofs.Common.{sym, ap, ap₂, ◌∙◌, subst, inl, inr, append
 use Rattle.std.proofs.lemmas.Bool.{cases_order}
 use Rattle.std.proofs.lemmas.List.{ext_get_or}
 use Rattle.element.specs.Algebra.{Algebra}
-use Rattle.medium.specs.Calls.{Rules, Call, Calls, no_call, one_call, LooksLike}
+use Rattle.medium.specs.Calls.{Rules, LooksLike}
+use Rattle.medium.proofs.Calling.{alike_after, alike_lanes}
 use Rattle.plan.specs.Links.{Shape}
 use Rattle.protocol.specs.Runs.{seen, link_at, accepted_in, tallied}
 use Rattle.turns.specs.Called.{turn_calls}
 use Rattle.circles.specs.Chains.{Snapshot, moment_at, TurnLeads, TurnsLead, no_turn, next_turn, CirclesLead}
 use Rattle.circles.specs.Chains.{no_circle, next_circle, CirclesUntil}
 use Rattle.circles.proofs.Same.{same_turn}
-
--- calls after calls are calls
-calls_then : {D : Type 0} (R : Rules D) (d e f : D) (cs ds : List Call) → Calls R d cs e → Calls R e ds f
-    → Calls R d (cs ++ ds) f
-calls_then R d e f cs [] before no_call = rw append-nil before
-calls_then R d e f cs ds before (one_call es c g h after leads) =
-    rw (← append_assoc) (one_call (cs ++ es) c g h (calls_then R d e g cs es before after) leads)
-
--- media that look alike still do after the same calls
-alike_after : {D E : Type 0} (R : Rules D) (S : Rules E) (d d' : D) (e e' : E) (cs ds : List Call) → LooksLike R d S e
-    → cs ≡ ds → Calls R d cs d' → Calls S e ds e' → LooksLike R d' S e'
-alike_after R S d d' e e' cs ds alike same a b more f g c h =
-    alike (cs ++ more) f g (calls_then R d d' f cs more a c)
-    (subst (λ xs. Calls S e (xs ++ more) g) (sym same) (calls_then S e e' g ds more b h))
-
--- and the same frames wait in them
-alike_lanes : {D E : Type 0} (R : Rules D) (S : Rules E) (d : D) (e : E) → LooksLike R d S e → R.lanes d ≡ S.lanes e
-alike_lanes R S d e alike = alike [] d e no_call no_call
 
 module _ {M D E : Type 0} (R : Rules D) (S : Rules E) where
   -- x and y show the same tally, records of links, copies and lanes
@@ -57,8 +40,8 @@ module _ {M D E : Type 0} (R : Rules D) (S : Rules E) where
           val = λ c. slice_index_or (m.copies k) c A.zero;
         } in
         let same = same_turn A P p s v s' v' before t.turn.turned u.turn.turned in
-        let after = alike_after R S x.medium x'.medium y.medium y'.medium
-        (turn_calls A P s s' p) (turn_calls A P v v' p) looks same.calls t.calls u.calls in
+        let after = alike_after R S x.medium y.medium looks x'.medium y'.medium
+        (turn_calls A P s s' p) (turn_calls A P v v' p) same.calls t.calls u.calls in
         let lanes = alike_lanes R S x'.medium y'.medium after in (
           record {
             tally = t.turn.counted ∙ ap₂ tallied (same.counts lanes) m.tally ∙ sym u.turn.counted;

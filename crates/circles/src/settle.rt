@@ -79,7 +79,7 @@ pub fn settle<E: Element, D: Medium, G: Goal>(
         if goal.is_met(turning, plan, table) {
             return Ok(Settling { ending: Ending::Met, circles });
         }
-        let Ok(()) = circle(turning, plan, table, medium, copies) else {
+        let Ok(_) = circle(turning, plan, table, medium, copies) else {
             return Ok(Settling { ending: Ending::OutOfTurns, circles });
         };
     }

@@ -2,4 +2,3 @@ pub mod Turns
 pub mod Search
 pub mod Promises
 pub mod Shown
-pub mod Over

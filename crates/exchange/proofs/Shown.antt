@@ -15,7 +15,7 @@ use Rattle.plan.specs.declared.records.CopyRecord.{CopyRecord}
 use Rattle.plan.specs.declared.records.Edge.{Edge}
 use Rattle.plan.proofs.Plans.{board_part, board_part_within, copies_below}
 use Rattle.forest.specs.Forest.{laid_copies}
-use Rattle.forest.proofs.Lowest.{lowest_first, lowest_same}
+use Rattle.forest.proofs.Lowest.{lowest_first, lowest_passes, lowest_same}
 use Rattle.protocol.specs.Books.{Book, HasAll, is_settled, report_by, lowest_unsettled}
 use Rattle.protocol.specs.Promise.{Promise}
 use Rattle.protocol.specs.Runs.{Moment, Run, fresh, turn, call, laid, accepted_in}
@@ -23,16 +23,20 @@ use Rattle.protocol.specs.declared.fault.RunFault.{RunFault}
 use Rattle.protocol.specs.declared.tally.Report.{Report}
 use Rattle.protocol.specs.declared.tally.Report.TheVariants.{Settled, Awaits}
 use Rattle.protocol.proofs.Theorem.{promise_holds}
-use Rattle.exchange.specs.Going.{LaidPlan, totals_of}
+use Rattle.exchange.specs.Going.{LaidPlan, LowestLacking, totals_of}
 
 settled_report : (r : Report) → is_settled r ≡ true → r ≡ Settled
 settled_report Settled e = refl
 settled_report (Awaits board items) e = absurd (both_ways false refl e)
 
--- where no board is unsettled, each is reported settled
-pub all_reported : (P : Shape) (count : ℕ → ℕ → ℕ) → P.boards ≤ lowest_unsettled P count
-    → (p : ℕ) → p < P.boards → report_by P count p ≡ Settled
-all_reported P count all p l = elim (cases_Bool (is_settled (report_by P count p))) [
+awaiting_report : (r : Report) → not (is_settled r) ≡ true → (q : ℕ) × (k : ℕ) × (r ≡ Awaits q k)
+awaiting_report Settled e = absurd (both_ways false refl e)
+awaiting_report (Awaits board items) e = (board, items, refl)
+
+-- below the lowest board that is not settled each is reported settled
+reported_below : (P : Shape) (count : ℕ → ℕ → ℕ) (p : ℕ) → p < P.boards → p < lowest_unsettled P count
+    → report_by P count p ≡ Settled
+reported_below P count p l low = elim (cases_Bool (is_settled (report_by P count p))) [
   | inl e ↦ settled_report (report_by P count p) e
   | inr e ↦ absurd (omega (
     arith,
@@ -40,6 +44,11 @@ all_reported P count all p l = elim (cases_Bool (is_settled (report_by P count p
         (ap not e),
   ))
 ]
+
+-- where no board is unsettled, each is reported settled
+pub all_reported : (P : Shape) (count : ℕ → ℕ → ℕ) → P.boards ≤ lowest_unsettled P count
+    → (p : ℕ) → p < P.boards → report_by P count p ≡ Settled
+all_reported P count all p l = reported_below P count p l (omega arith)
 
 -- a report that is answered was asked of a board that there is
 pub reported : (n p : ℕ) (x r : Report) (f : RunFault)
@@ -91,11 +100,27 @@ module _ {M : Type 0} (A : Algebra M) (law : Lawful A) (s : Scene) (boards : ℕ
       ap (λ S. report_by S table p) same_shape
       ∙ promised.reports_follow_the_book p (omega (arith, plan.same_boards))
 
-  pub lowest_is_the_books : lowest_unsettled (shape boards edges) table ≡ lowest_unsettled (laid A s) book
+  lowest_is_the_books : lowest_unsettled (shape boards edges) table ≡ lowest_unsettled (laid A s) book
   lowest_is_the_books =
       ap (λ S. lowest_unsettled S table) same_shape
       ∙ lowest_same _ _ s.boards
       (λ p l. ap (λ r. not (is_settled r)) (promised.reports_follow_the_book p l))
+
+  -- the lowest board that is not settled is the lowest that lacks something by the book
+  pub lowest_lacks : lowest_unsettled (shape boards edges) table < boards
+      → LowestLacking (laid A s) book (lowest_unsettled (shape boards edges) table)
+  lowest_lacks some =
+      let b = lowest_unsettled (laid A s) book in
+      let low : b < s.boards = omega (arith, lowest_is_the_books, plan.same_boards) in
+      let (q, k, awaits) = awaiting_report (report_by (laid A s) book b)
+      (lowest_passes (λ r. not (is_settled (report_by (laid A s) book r))) s.boards low) in
+      let (is_board, is, more, _) = promised.reports_name_the_lowest_lacking b q k low awaits in
+      subst (LowestLacking (laid A s) book) (sym lowest_is_the_books) record {
+        is_board = low;
+        lacks_some = (q, is_board, omega (arith, is));
+        lower_have_all = λ p l. let m : p < s.boards = omega arith in
+            promised.reported_settled_is_settled p m (reported_below (laid A s) book p m l);
+      }
 
   module _ (all : boards ≤ lowest_unsettled (shape boards edges) table) where
     pub all_have_all : (p : ℕ) → p < s.boards → HasAll (laid A s) book p

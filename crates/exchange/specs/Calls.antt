@@ -1,6 +1,6 @@
 -- What the calls of a run answer, and what they leave.
-use Rattle.std.specs.Prelude.{◌≡◌, ℕ, ◌/◌, ◌%◌, ◌<◌, cond, List, [], length, Some, None, Ok, Err, Option, Result}
-use Rattle.std.specs.Prelude.{nat_le, nat_lt}
+use Rattle.std.specs.Prelude.{◌≡◌, ℕ, ◌/◌, ◌%◌, ◌<◌, ◌≤◌, ◌⊎◌, cond, List, [], length, Some, None, Ok, Err}
+use Rattle.std.specs.Prelude.{Option, Result, nat_le, nat_lt}
 use Rattle.std.specs.Option.{option_or}
 use Rattle.element.specs.Algebra.{Algebra}
 use Rattle.medium.specs.Lanes.{Lanes}
@@ -34,6 +34,11 @@ pub record FirstWaiting (lanes : Lanes) (k : ℕ) : Type 0 where
 -- a frame waits in some lane: the first such lane is named
 abbrev pub WaitingFault : Lanes → RunFault → Type 0
 WaitingFault lanes f = (k : ℕ) × FirstWaiting lanes k × (f ≡ Waiting (k / 8) (k % 8))
+
+-- why a run does not start: too little memory for the plan's copies, or else a frame that waits
+abbrev pub StartFault : List CopyRecord → ℕ → Lanes → RunFault → Type 0
+StartFault copies room lanes f =
+    ((room < length copies) × (f ≡ Short (length copies))) ⊎ ((length copies ≤ room) × WaitingFault lanes f)
 
 -- why copies are not shown: too little memory for the plan's copies, then no such board
 abbrev pub show_fault : ℕ → List CopyRecord → ℕ → ℕ → Option RunFault

@@ -1,11 +1,11 @@
 -- How calls carry a run, and its promise, from one moment to the next.
 use Rattle.std.specs.Prelude.{◌≡◌, ℕ, ◌+◌, ◌<◌, ◌≤◌, ◌⊎◌, List, [], ◌∷◌, ◌++◌, map, length, get_or, take, drop}
-use Rattle.std.specs.Prelude.{replicate, Some, None, Ok, Err, Result, slice_index_or}
+use Rattle.std.specs.Prelude.{replicate, Some, None, Ok, Err, Result, slice_index_or, IfOk}
 use Rattle.element.specs.Algebra.{Algebra}
 use Rattle.medium.specs.Lanes.{Lanes}
 use Rattle.scene.specs.Cells.{Scene, Sound}
 use Rattle.scene.specs.Sums.{own_sum, undivided}
-use Rattle.plan.specs.Links.{no_copy}
+use Rattle.plan.specs.Links.{Shape, no_copy}
 use Rattle.plan.specs.Starts.{copies_on}
 use Rattle.plan.specs.declared.records.CopyRecord.{CopyRecord}
 use Rattle.plan.specs.declared.records.Edge.{Edge}
@@ -14,14 +14,13 @@ use Rattle.protocol.specs.declared.tally.Report.{Report}
 use Rattle.protocol.specs.declared.tally.Tally.{Tally}
 use Rattle.protocol.specs.declared.tally.TurnCounts.{TurnCounts}
 use Rattle.protocol.specs.declared.table.Link.{Link}
-use Rattle.protocol.specs.Books.{Book, blank, fed, HasAll, report_by, lowest_unsettled}
+use Rattle.protocol.specs.Books.{Book, blank, fed, lacks, HasAll, report_by}
 use Rattle.protocol.specs.Runs.{Moment, Run, Still, laid, moment, no_tally, no_link}
 use Rattle.protocol.specs.Promise.{Promise}
 use Rattle.protocol.specs.declared.fault.RunFault.{RunFault}
 use Rattle.protocol.specs.declared.fault.RunFault.TheVariants.{Early}
-use Rattle.sums.specs.Sums.{loaded_copies}
-use Rattle.exchange.specs.Calls.{IdleBefore, TurnAnswers, WaitingFault}
-use Rattle.exchange.specs.Loading.{load_fault}
+use Rattle.sums.specs.Sums.{load_fault, loaded_copies}
+use Rattle.exchange.specs.Calls.{IdleBefore, WaitingFault}
 use Rattle.exchange.specs.declared.run.Turning.{Turning}
 
 -- these records are the laid plan of an accepted scene
@@ -68,17 +67,21 @@ InEveryRun {M} A s tally links Holds = (copies : List M) (lanes : Lanes) (ts : L
 
 -- a report, which is made from the table, is the one that the book gives
 abbrev pub ReportsTheBook : {M : Type 0} → Algebra M → Scene → ℕ → Result Report RunFault → Book → List M → Type 0
-ReportsTheBook A s p (Ok report) book copies = report ≡ report_by (laid A s) book p
-ReportsTheBook A s p (Err f) book copies = Unit {0}
+ReportsTheBook A s p r book copies = IfOk r (λ report. report ≡ report_by (laid A s) book p)
+
+-- board b is the lowest that lacks something by the book
+pub record LowestLacking (P : Shape) (book : Book) (b : ℕ) : Type 0 where
+  pub is_board : b < P.boards
+  pub lacks_some : (q : ℕ) × (q < P.boards) × (0 < lacks P book b q)
+  pub lower_have_all : (p : ℕ) → p < b → HasAll P book p
 
 -- a run that ends has all boards settled by the book, and each copy holds the undivided total;
--- one that does not end has the lowest board named that is not settled by the book
+-- of one that does not end the board is named that is the lowest to lack something by the book
 abbrev pub EndsByTheBook : {M X Y : Type 0} → Algebra M → Scene → Result X (Y × RunFault) → Book → List M → Type 0
 EndsByTheBook A s (Ok _) book copies =
     ((p : ℕ) → p < s.boards → HasAll (laid A s) book p)
     × (take (length (laid_copies s)) copies ≡ totals_of A s (laid_copies s))
-EndsByTheBook A s (Err e) book copies =
-    (lowest_unsettled (laid A s) book < s.boards) × (e.1 ≡ Early (lowest_unsettled (laid A s) book))
+EndsByTheBook A s (Err e) book copies = (b : ℕ) × LowestLacking (laid A s) book b × (e.1 ≡ Early b)
 
 -- why a run does not begin: what is against loading, or else a frame that waits
 abbrev pub BeginFault : {M : Type 0} → Algebra M → Scene → List CopyRecord → List M → Lanes → RunFault → Type 0
@@ -97,23 +100,6 @@ BeginAnswers A s records lanes memory memory' links links' (Ok t) =
 BeginAnswers A s records lanes memory memory' links links' (Err f) =
     BeginFault A s records memory lanes f × (memory' ≡ memory) × (links' ≡ links)
 
--- board 1 and then board 0 were given a turn in a run that just started with these copies over these lanes
-pub record TurnedTwice {M : Type 0} (A : Algebra M) (boards : ℕ) (records : List CopyRecord) (edges : List Edge)
-    (lanes : Lanes) (copies : List M) (m : Moment M) : Type 0 where
-  pub idle : IdleBefore lanes 64
-  pub between : Moment M
-  pub one : Result TurnCounts RunFault
-  pub zero : Result TurnCounts RunFault
-  pub first : TurnAnswers A boards records edges 1 (moment no_tally (replicate 64 no_link) copies lanes) between one
-  pub second : TurnAnswers A boards records edges 0 between m zero
-
--- a run is tried; or it does not start, since a frame waits, and all stays
-abbrev pub TriedOut : {M : Type 0} → Algebra M → ℕ → List CopyRecord → List Edge → Lanes → Lanes → List M → List M
-    → List Link → List Link → Type 0
-TriedOut A boards records edges lanes lanes' copies copies' links links' =
-    ((tally : Tally) × TurnedTwice A boards records edges lanes copies (moment tally links' copies' lanes'))
-    ⊎ ((f : RunFault) × WaitingFault lanes f × (copies' ≡ copies) × (links' ≡ links) × (lanes' ≡ lanes))
-
 -- in every run of a laid plan whose links and copies are these, board p's copies are the undivided totals
 abbrev pub ShowsTotals : {M : Type 0} → Algebra M → ℕ → List CopyRecord → List Edge → List Link → List M → ℕ → List M
     → Type 0
@@ -125,6 +111,5 @@ ShowsTotals A boards records edges links copies p shown = (s : Scene) → LaidPl
 -- and by the laid plan it is a fresh run that keeps its promise
 abbrev pub BeginsFresh : {M : Type 0} → Algebra M → Scene → ℕ → List CopyRecord → List Edge → List Link → List M
     → Lanes → Result Turning RunFault → Type 0
-BeginsFresh A s boards records edges links copies lanes (Ok t) = LaidPlan s boards records edges
-    → Kept A s [] (moment t.tally links copies lanes) blank 0
-BeginsFresh A s boards records edges links copies lanes (Err f) = Unit {0}
+BeginsFresh A s boards records edges links copies lanes r = IfOk r (λ t. LaidPlan s boards records edges
+    → Kept A s [] (moment t.tally links copies lanes) blank 0)

@@ -1,5 +1,6 @@
 // The states of a run. They are neither copied nor let go: one call leads on to the next.
 ghost use Rattle.std.specs.Prelude.{◌*◌, ◌≤◌};
+ghost use Rattle.protocol.specs.Faults.{turn_limit};
 
 use protocol::tally::Tally;
 
@@ -13,19 +14,25 @@ mod show;
 mod start;
 mod turn;
 
+// A part of each state. It derives nothing, so no state can be copied or let go.
+struct Linear;
+
 // Each copy holds its board's own sum.
 pub struct Loaded {
     copies: usize,
+    linear: Linear,
 }
 
 // The boards turn.
 pub struct Turning {
     tally: Tally,
-    ghost few: { (tally.turns ≤ 1000000) × (tally.puts ≤ 8 * tally.turns) × (tally.lost ≤ tally.puts) ×
+    linear: Linear,
+    ghost few: { (tally.turns ≤ turn_limit) × (tally.puts ≤ 8 * tally.turns) × (tally.lost ≤ tally.puts) ×
         (tally.accepted ≤ 512 * tally.turns) },
 }
 
 // Every board is settled.
 pub struct Ended {
     tally: Tally,
+    linear: Linear,
 }

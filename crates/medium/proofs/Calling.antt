@@ -1,7 +1,7 @@
 -- Lists of calls of a medium, one after the other.
-use Rattle.std.proofs.Common.{List, [], ◌∷◌, ◌++◌}
+use Rattle.std.proofs.Common.{◌≡◌, List, [], ◌∷◌, ◌++◌, sym, subst}
 use Rattle.std.proofs.lemmas.List.{append-nil, append_assoc}
-use Rattle.medium.specs.Calls.{Rules, Call, Leads, Calls, no_call, one_call}
+use Rattle.medium.specs.Calls.{Rules, Call, Leads, Calls, no_call, one_call, LooksLike}
 
 module _ {D : Type 0} {R : Rules D} where
   -- one list of calls, and then another
@@ -13,3 +13,15 @@ module _ {D : Type 0} {R : Rules D} where
   -- a list of one call
   pub call_made : {d e : D} {c : Call} → Leads R c d e → Calls R d (c ∷ []) e
   call_made {d = d} {e = e} {c = c} leads = one_call [] c d e no_call leads
+
+module _ {D E : Type 0} (R : Rules D) (S : Rules E) (d : D) (e : E) (alike : LooksLike R d S e) where
+  -- the same frames wait in media that look alike
+  pub alike_lanes : R.lanes d ≡ S.lanes e
+  alike_lanes = alike [] d e no_call no_call
+
+  -- and they still look alike after the same calls
+  pub alike_after : (d' : D) (e' : E) (cs ds : List Call) → cs ≡ ds → Calls R d cs d' → Calls S e ds e'
+      → LooksLike R d' S e'
+  alike_after d' e' cs ds same a b more f g c h =
+      alike (cs ++ more) f g (calls_then a c)
+      (subst (λ xs. Calls S e (xs ++ more) g) (sym same) (calls_then b h))

@@ -18,6 +18,7 @@ pub data Call : Type 0 where
   take_call : (from to : ℕ) → Call
   put_call : (from to : ℕ) (frame : Frame) → Call
 
+-- whether a call puts
 abbrev pub is_put : Call → Bool
 is_put (take_call from to) = false
 is_put (put_call from to f) = true

@@ -1,6 +1,6 @@
 -- What a put and a take make of a quota, by the rules of the medium below it.
 use Rattle.std.specs.Prelude.{◌≡◌, ℕ}
-use Rattle.medium.specs.Calls.{Rules, rules_of, LooksLike}
+use Rattle.medium.specs.Calls.{Rules, rules_of}
 use Rattle.medium.specs.Lanes.{Lanes}
 use Rattle.medium.specs.Puts.{Puts, Rationed, Takes}
 use Rattle.medium.specs.declared.quota.Quota.{Quota}
@@ -29,8 +29,3 @@ quota_puts lanes puts s from to f k t =
 -- the rules of a quota over a medium of these rules
 abbrev pub quota_rules : {M : Type 0} → Rules M → Rules (Quota M)
 quota_rules R = rules_of (quota_lanes R.lanes) (quota_takes R.takes) (quota_puts R.lanes R.puts)
-
--- no calls tell it from any other quota of the same limit over a medium that looks like its own
-abbrev pub LooksLikeTwinQuotas : {M : Type 0} → Rules M → Quota M → Type 0
-LooksLikeTwinQuotas {M} R s = (t : Quota M) → limit_of s ≡ limit_of t
-    → LooksLike R (below_quota s) R (below_quota t) → LooksLike (quota_rules R) s (quota_rules R) t

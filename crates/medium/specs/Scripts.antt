@@ -33,11 +33,6 @@ script_puts lanes puts s from to f k t =
 abbrev pub script_rules : {M : Type 0} → Rules M → Rules (Script M)
 script_rules R = rules_of (script_lanes R.lanes) (script_takes R.takes) (script_puts R.lanes R.puts)
 
--- no calls tell it from any other script at the same number over a medium that looks like its own
-abbrev pub LooksLikeTwinScripts : {M : Type 0} → Rules M → Script M → Type 0
-LooksLikeTwinScripts {M} R s = (t : Script M) → next_of s ≡ next_of t
-    → LooksLike R (below_script s) R (below_script t) → LooksLike (script_rules R) s (script_rules R) t
-
 -- after any calls, the next put follows the table's entry at the number of puts among them
 abbrev pub FollowsTheTable : {M : Type 0} → Rules M → Script M → Type 0
 FollowsTheTable {M} R s = (cs : List Call) (t u : Script M) (from to : ℕ) (f : Frame) (k : ℕ)

@@ -21,14 +21,13 @@ pub struct Queue {
 impl Queue {
     ghost use Rattle.medium.specs.Lanes.{empty_lanes};
     ghost use Rattle.medium.specs.Held.{queue_lanes, queue_rules};
-    ghost use Rattle.medium.specs.Calls.{IsDecided, FillsEmptyLanes, LooksLikeEachEmpty};
+    ghost use Rattle.medium.specs.Calls.{FillsEmptyLanes, LooksLikeEachEmpty};
 
     // No frame waits.
     #[tactic(auto, using(crate::specs::Tables::made_few))]
     pub fn new() -> Queue
         ensures empty { queue_lanes result ≡ empty_lanes }
         ensures alike { LooksLikeEachEmpty queue_rules result }
-        ensures decided { IsDecided queue_rules result }
         ensures fills { FillsEmptyLanes queue_rules }
     {
         Queue { lanes: opened() }

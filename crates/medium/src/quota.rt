@@ -62,12 +62,10 @@ pub struct Quota<M> {
 
 impl<M: Medium> Quota<M> {
     ghost use Rattle.medium.specs.Calls.{rules_of, FillsEmptyLanes, IsDecided};
-    ghost use Rattle.medium.specs.Quotas.{quota_rules, LooksLikeTwinQuotas};
+    ghost use Rattle.medium.specs.Quotas.{quota_rules};
 
     pub fn over(below: M, limit: Limit) -> Quota<M>
         ensures parts { (result.below ≡ below) × (result.limit ≡ limit) }
-        ensures alike { let R = rules_of M.Medium.lanes M.Medium.takes M.Medium.puts in
-            LooksLikeTwinQuotas R result }
         ensures decided { let R = rules_of M.Medium.lanes M.Medium.takes M.Medium.puts in
             IsDecided R below → IsDecided (quota_rules R) result }
         ensures fills { let R = rules_of M.Medium.lanes M.Medium.takes M.Medium.puts in

@@ -54,12 +54,10 @@ pub struct Script<M> {
 
 impl<M: Medium> Script<M> {
     ghost use Rattle.medium.specs.Calls.{rules_of, IsDecided};
-    ghost use Rattle.medium.specs.Scripts.{script_rules, FollowsTheTable, LooksLikeTwinScripts};
+    ghost use Rattle.medium.specs.Scripts.{script_rules, FollowsTheTable};
 
     pub fn over(below: M) -> Script<M>
         ensures parts { (result.below ≡ below) × (result.next ≡ 0) }
-        ensures alike { let R = rules_of M.Medium.lanes M.Medium.takes M.Medium.puts in
-            LooksLikeTwinScripts R result }
         ensures decided { let R = rules_of M.Medium.lanes M.Medium.takes M.Medium.puts in
             IsDecided R below → IsDecided (script_rules R) result }
         ensures follows { let R = rules_of M.Medium.lanes M.Medium.takes M.Medium.puts in

@@ -1,122 +1,103 @@
--- Computed circles are circles of a run by the rules, and what they lead to is listed as promised.
-use Rattle.std.proofs.Common.{◌≡◌, ℕ, zero, suc, ◌+◌, ◌*◌, ◌≤◌, Bool, true, ltb, not, [], ◌++◌, length, Ok}
-use Rattle.std.proofs.Common.{sym, refl, ap, ◌∙◌, subst, inl, inr, append-nil, arith}
-use Rattle.std.specs.List.{range_with_len}
+-- Computed circles are circles by the rules, and what they lead to is listed with all that is promised of a run.
+use Rattle.std.proofs.Common.{◌≡◌, ℕ, zero, suc, ◌+◌, ◌*◌, ◌≤◌, false, ltb, [], ◌++◌, length}
+use Rattle.std.proofs.Common.{sym, refl, ap, ◌∙◌, inl, inr, append-nil, arith}
 use Rattle.std.proofs.lemmas.Bool.{and_parts, both_ways, cases_Bool, ltb-true}
 use Rattle.std.proofs.lemmas.List.{get_or-replicate}
 use Rattle.std.proofs.Math.Seq.{drop-nil}
 use Rattle.element.specs.Algebra.{Algebra, Lawful}
+use Rattle.medium.specs.Calls.{Rules}
+use Rattle.medium.specs.Lanes.{is_lane}
+use Rattle.plan.specs.Links.{Shape}
 use Rattle.scene.specs.Cells.{Scene, Sound}
 use Rattle.forest.specs.Forest.{laid_copies, laid_edges}
-use Rattle.forest.proofs.Filters.{counting_next}
 use Rattle.protocol.specs.Books.{blank}
-use Rattle.protocol.specs.Runs.{Moment, Fresh, fresh, laid, no_link, seen, counts}
-use Rattle.medium.specs.Lanes.{is_lane}
-use Rattle.exchange.specs.Going.{Carried, Kept, LaidPlan, OwnSums}
-use Rattle.exchange.proofs.Promises.{carried_on, kept, own_sums_from_load, turn_goes_on}
-use Rattle.circles.specs.Circles.{TurnedBelow, next_turn, UnsettledCircles, none, one_more, unsettled}
-use Rattle.circles.proofs.Turns.{circles_carry, no_board_turned, unsettled_from}
-use Rattle.cabinet.specs.Listed.{Listed, circle_limit}
-use Rattle.cabinet.proofs.Runs.{run_listed}
-use Rattle.readings.specs.Media.{Medium}
-use Rattle.readings.specs.Runs.{turned, turned_below, circled, started, led_to, listed_over, Reached}
-use Rattle.readings.proofs.Turning.{Ready, stays_ready, by_the_rules}
+use Rattle.protocol.specs.Runs.{Fresh, fresh, laid, no_link, accepted_in}
+use Rattle.exchange.specs.Going.{Kept, LaidPlan, OwnSums}
+use Rattle.exchange.proofs.Promises.{kept, own_sums_from_load}
+use Rattle.circles.specs.Chains.{TurnsLead, no_turn, next_turn, CirclesLead, no_circle, next_circle, CirclesUntil}
+use Rattle.circles.specs.Chains.{Snapshot, moment_at, all_settled}
+use Rattle.circles.proofs.Turns.{circles_carry}
+use Rattle.cabinet.specs.Listed.{Listed, circle_limit, started}
+use Rattle.readings.specs.Media.{Medium, CountedLanes, computed_rules, fresh_lanes}
+use Rattle.readings.specs.Runs.{after_turn, after_turns, after_circles, led_to, listed_over}
+use Rattle.readings.proofs.Turning.{Ready, stays_ready, turn_leads}
 
-module _ {M : Type 0} (A : Algebra M) (law : Lawful A) (medium : Medium) (s : Scene) (ok : Sound s) where
-  abbrev plan : LaidPlan s s.boards (laid_copies s) (laid_edges s)
-  plan = record { sound = ok; same_boards = refl; same_copies = refl; same_edges = refl }
+module _ {M : Type 0} (A : Algebra M) (medium : Medium) (s : Scene) (ok : Sound s) where
+  abbrev R : Rules CountedLanes
+  R = computed_rules medium
 
-  abbrev Below : ℕ → Moment M → Moment M → Type 0
-  Below = TurnedBelow A s.boards (laid_copies s) (laid_edges s)
+  abbrev P : Shape
+  P = laid A s
 
-  abbrev Circles : Moment M → ℕ → Moment M → Type 0
-  Circles = UnsettledCircles A s.boards (laid_copies s) (laid_edges s)
-
-  abbrev is_unsettled : Moment M → Bool
-  is_unsettled = unsettled s.boards (laid_edges s)
-
-  boards_below : (m : Moment M) → Ready s m → (k : ℕ) → k ≤ s.boards
-      → Below k m (turned_below A medium s.boards (laid_edges s) k m)
-      × Ready s (turned_below A medium s.boards (laid_edges s) k m)
-  boards_below m ready zero l = (no_board_turned A law s.boards (laid_copies s) (laid_edges s) m, ready)
-  boards_below m ready (suc k) l =
-      let (so_far, still) = boards_below m ready k (omega arith) in
-      let m₁ = turned_below A medium s.boards (laid_edges s) k m in
-      let m₂ = turned A medium s.boards (laid_edges s) k m₁ in
-      let n = counts A (laid A s) (seen A m₁) (seen A m₂) k in
-      let t = by_the_rules A medium s ok k m₁ (omega arith) still in (
-        record {
-          made = next_turn k m₁ m₂ so_far.made t;
-          turns = omega (arith, so_far.turns);
-          carried = λ s' laid_here.
-              subst (λ us. Carried A s' m m₂ us) (sym (counting_next k))
-              (carried_on A law s' m m₁ m₂ (range_with_len 0 k) k n (so_far.carried s' laid_here)
-              (turn_goes_on A law s' s.boards (laid_copies s) (laid_edges s) laid_here k m₁ m₂ n t refl));
-        },
-        stays_ready A medium s ok k m₁ (omega arith) still,
-      )
-
-  -- from a moment that circles led to, more circles
-  more_circles : (start : Moment M) (limit j : ℕ) (m : Moment M) → Ready s m → Circles start j m
-      → let m' = circled A medium s.boards (laid_edges s) limit m in
-      (k : ℕ) × (k ≤ j + limit) × (is_unsettled m' ≡ true → k ≡ j + limit) × Circles start k m' × Ready s m'
-  more_circles start zero j m ready so_far = (j, omega arith, λ _. omega arith, so_far, ready)
-  more_circles start (suc l) j m ready so_far = elim (cases_Bool (is_unsettled m)) [
-    | inl e ↦
-        let (below, still) = boards_below m ready s.boards (omega arith) in
-        let (k, few, all, rounds, kept) = more_circles start l (suc j) _ still (one_more j m _ so_far e below) in
-        rw e (k, omega arith, λ u. omega (arith, all u), rounds, kept)
-    | inr e ↦ rw e (j, omega arith, λ u. absurd (both_ways _ e u), so_far, ready)
-  ]
-
-  abbrev start : Moment M
-  start = started A s
+  abbrev start : Snapshot M CountedLanes
+  start = started A s fresh_lanes
 
   own : OwnSums A s start.copies
   own = own_sums_from_load A s (laid_copies s) [] start.copies refl
       (sym (append-nil start.copies) ∙ ap (λ rest. start.copies ++ rest) (sym (drop-nil (length (laid_copies s)))))
 
-  fresh_start : Fresh A s start
-  fresh_start = record {
-    no_turns = refl;
-    no_counts = λ a b. elim (cases_Bool (is_lane a b)) [
-      | inl e ↦
-          let (l, m) = and_parts (ltb a 8) (ltb b 8) e in
-          rw e (get_or-replicate 64 (8 * a + b) no_link no_link (omega (arith, ltb-true a 8 l, ltb-true b 8 m)))
-      | inr e ↦ rw e refl
-    ];
-    no_frames = λ a b. refl;
-    room = own.room;
-    loaded = own.loaded;
-  }
+  turns_below : (x : Snapshot M CountedLanes) → Ready s x → (k : ℕ) → k ≤ s.boards
+      → let y = after_turns A medium s.boards (laid_edges s) k x in TurnsLead A R P x k y × Ready s y
+  turns_below x ready zero l = (no_turn, ready)
+  turns_below x ready (suc k) l =
+      let (so_far, still) = turns_below x ready k (omega arith) in
+      let y = after_turns A medium s.boards (laid_edges s) k x in (
+        next_turn k y (after_turn A medium s.boards (laid_edges s) k y) so_far
+            (turn_leads A medium s ok k y (omega arith) still),
+        stays_ready A medium s ok k y (omega arith) still,
+      )
 
-  begins : Kept A s [] start blank 0
-  begins = kept A law s ok [] start blank 0 (fresh fresh_start)
+  -- where circles led to, more circles
+  more_circles : (limit j : ℕ) (x : Snapshot M CountedLanes) → Ready s x → CirclesLead A R P (all_settled P) start j x
+      → let y = after_circles A medium s.boards (laid_edges s) limit x in
+      (k : ℕ) × (k ≤ j + limit) × (all_settled P (accepted_in y.links) ≡ false → k ≡ j + limit)
+      × CirclesLead A R P (all_settled P) start k y
+  more_circles zero j x ready so_far = (j, omega arith, λ _. omega arith, so_far)
+  more_circles (suc l) j x ready so_far = elim (cases_Bool (all_settled P (accepted_in x.links))) [
+    | inl e ↦ rw e (j, omega arith, λ u. absurd (both_ways _ u e), so_far)
+    | inr e ↦
+        let (turns, still) = turns_below x ready s.boards (omega arith) in
+        let (k, few, all, led) = more_circles l (suc j) _ still (next_circle j x _ so_far e turns) in
+        rw e (k, omega arith, λ u. omega (arith, all u), led)
+  ]
 
-  abbrev end : ℕ → Moment M
-  end limit = led_to A s medium limit
+  pub circles_lead : (limit : ℕ)
+      → CirclesUntil A R P (all_settled P) limit start (led_to A s medium limit)
+  circles_lead limit =
+      let (n, few, all, led) = more_circles limit 0 start (refl, own.room) no_circle in
+      record { circles = n; few = omega (arith, few); led = led; ended = λ u. omega (arith, all u) }
 
-  pub reached : (limit : ℕ) → Reached A s limit start (end limit)
-  reached limit =
-      let (n, few, all, rounds, _) = more_circles start limit 0 start (refl, own.room) none in
-      let (book, losses, k) = circles_carry A law s.boards (laid_copies s) (laid_edges s) start (end limit) n rounds
-      s plan [] blank 0 begins.run in
-      record {
-        begun = fresh_start;
-        rounds = n;
-        few = omega (arith, few);
-        ended = λ u. omega (arith, all u);
-        circled = rounds;
-        book = book;
-        losses = losses;
-        run = k.run;
-      }
+  module _ (law : Lawful A) where
+    fresh_start : Fresh A s (moment_at R start)
+    fresh_start = record {
+      no_turns = refl;
+      no_counts = λ a b. elim (cases_Bool (is_lane a b)) [
+        | inl e ↦
+            let (l, m) = and_parts (ltb a 8) (ltb b 8) e in
+            rw e (get_or-replicate 64 (8 * a + b) no_link no_link (omega (arith, ltb-true a 8 l, ltb-true b 8 m)))
+        | inr e ↦ rw e refl
+      ];
+      no_frames = λ a b. refl;
+      room = own.room;
+      loaded = own.loaded;
+    }
 
-  pub listed : Listed A s (listed_over A s medium)
-  listed =
-      let r = reached circle_limit in
-      let m = end circle_limit in
-      let settled = Ok (not (is_unsettled m)) in
-      let (_, _, _, _, ready) = more_circles start circle_limit 0 start (refl, own.room) none in
-      run_listed A law s start m (listed_over A s medium) begins settled s.boards (laid_copies s) (laid_edges s) plan
-      ((refl, (r.rounds, r.few, λ u. r.ended (unsettled_from _ u), r.circled)), ready.1, refl)
+    begins : Kept A s [] (moment_at R start) blank 0
+    begins = kept A law s ok [] (moment_at R start) blank 0 (fresh fresh_start)
+
+    plan : LaidPlan s s.boards (laid_copies s) (laid_edges s)
+    plan = record { sound = ok; same_boards = refl; same_copies = refl; same_edges = refl }
+
+    pub listed : Listed A R s fresh_lanes (listed_over A s medium)
+    listed =
+        let run = circles_lead circle_limit in
+        let (book, losses, kept) = circles_carry A law R s.boards (laid_copies s) (laid_edges s) s plan (all_settled P)
+        start (led_to A s medium circle_limit) run.circles run.led [] blank 0 begins.run in
+        record {
+          end = led_to A s medium circle_limit;
+          run = run;
+          book = book;
+          losses = losses;
+          kept = kept;
+          told = refl;
+        }

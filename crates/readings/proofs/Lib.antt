@@ -1,3 +1,4 @@
-pub mod Putting
+pub mod Media
 pub mod Turning
 pub mod Circling
+pub mod Told

@@ -1,11 +1,10 @@
--- How many frames a put appends, over the media of the two programs.
+-- How many frames a put appends, over the media of the two programs; and a medium that appends just as many.
 use Rattle.std.specs.Prelude.{◌≡◌, ℕ, ◌+◌, ◌%◌, cond, length, ◌==◌}
-use Rattle.medium.specs.Lanes.{Lanes, appended}
-use Rattle.medium.specs.Puts.{Puts, Rationed, Scripted}
-use Rattle.medium.specs.Held.{queue_count, queue_lanes, queue_puts}
+use Rattle.medium.specs.Calls.{Rules, rules_of}
 use Rattle.medium.specs.Fates.{entry, table}
+use Rattle.medium.specs.Held.{queue_count}
+use Rattle.medium.specs.Lanes.{Lanes, appended, empty_lanes}
 use Rattle.medium.specs.declared.frame.Frame.{Frame}
-use Rattle.medium.specs.declared.queue.Queue.{Queue}
 
 -- by how many puts were made before, the lanes, the two boards, and the frame
 abbrev pub Medium : Type 0
@@ -26,12 +25,20 @@ rough n lanes from to f =
     let code = entry (n % length table) in
     cond (code == 0) (plain n lanes from to f) (cond (code == 1) 0 (twice n lanes from to f))
 
--- that is as many as the rules of these media say
-abbrev pub ration : Puts Queue
-ration = Rationed queue_lanes queue_puts 8
+-- lanes, and how many puts were made so far
+pub record CountedLanes : Type 0 where
+  pub puts : ℕ
+  pub lanes : Lanes
 
-pub record PutsByTheRules : Type 0 where
-  pub of_plain : (n : ℕ) (s : Queue) (from to : ℕ) (f : Frame) (k : ℕ) (t : Queue)
-      → ration s from to f k t → k ≡ plain n (queue_lanes s) from to f
-  pub of_rough : (n : ℕ) (s : Queue) (from to : ℕ) (f : Frame) (k : ℕ) (t : Queue)
-      → Scripted queue_lanes ration (entry (n % length table)) s from to f k t → k ≡ rough n (queue_lanes s) from to f
+abbrev pub counted_lanes : ℕ → Lanes → CountedLanes
+counted_lanes puts lanes = record { puts = puts; lanes = lanes }
+
+-- no put was made, and no frame waits
+abbrev pub fresh_lanes : CountedLanes
+fresh_lanes = counted_lanes 0 empty_lanes
+
+-- a put is counted, and appends just as many frames as the computed medium says; a take is no put
+abbrev pub computed_rules : Medium → Rules CountedLanes
+computed_rules medium = rules_of (λ x. x.lanes)
+    (λ x from to y. y.puts ≡ x.puts)
+    (λ x from to f k y. (y.puts ≡ x.puts + 1) × (k ≡ medium x.puts x.lanes from to f))

@@ -3,10 +3,11 @@ use Rattle.std.specs.Prelude.{◌≡◌, ℕ, List, [], ◌∷◌, ◌++◌, map
 use Prim.Native.String.{String}
 use Rattle.std.specs.List.{flat_map}
 use Rattle.element.specs.Models.{force_algebra, depth_algebra}
-use Rattle.scene.specs.Cells.{Scene, Sound}
+use Rattle.scene.specs.Cells.{Scene}
 use Rattle.scene.specs.Layout.{scene_of}
 use Rattle.listing.specs.Lines.{line_end}
 use Rattle.protocol.specs.declared.tally.Report.TheVariants.{Settled, Awaits}
+use Rattle.cabinet.specs.Programs.{HaloPage, RoughPage}
 use Rattle.readings.specs.Media.{plain, rough}
 use Rattle.readings.specs.Bytes.{triangles, with_first, empty_scene, cell, part, depth}
 use Rattle.readings.specs.Answers.{Answer, accepted, refused, totals, lists, reports, axis}
@@ -28,11 +29,6 @@ fifth_vertex = scene_of (triangles 2 0 5)
 -- one board, no vertices, no cells
 abbrev pub smallest : Scene
 smallest = scene_of empty_scene
-
--- they keep the ranges of an accepted scene, which the runs' promises ask for
-abbrev pub WorkedScenesAreSound : Type 0
-WorkedScenesAreSound =
-    Sound two_triangles × Sound overlapping × Sound third_board × Sound fifth_vertex × Sound smallest
 
 -- the first triangle with two equal corners, and with a second word where a depth has one
 abbrev pub equal_corners : List ℕ
@@ -104,3 +100,14 @@ table =
 -- both columns are the same
 abbrev pub Readings : Type 0
 Readings = map (λ r. r.0) (table ++ runs) ≡ map (λ r. r.1) (table ++ runs)
+
+-- whatever the program may print for these bytes is listed so
+abbrev pub PrintsOnly : (List ℕ → List ℕ → Type 0) → List ℕ → Answer → Type 0
+PrintsOnly Page bytes listed = (page : List ℕ) → Page bytes page → lists page ≡ listed
+
+-- the pages of the two triangles and of the smallest scene
+pub record WorkedPages : Type 0 where
+  pub halo_triangles : PrintsOnly HaloPage (triangles 2 0 4) (settled_triangles "turns 8 puts 7 lost 0 accepted 4")
+  pub rough_triangles : PrintsOnly RoughPage (triangles 2 0 4) (settled_triangles "turns 12 puts 10 lost 2 accepted 4")
+  pub halo_smallest : PrintsOnly HaloPage empty_scene smallest_listed
+  pub rough_smallest : PrintsOnly RoughPage empty_scene smallest_listed

@@ -1,14 +1,8 @@
 // The worked examples stand.
-ghost use Rattle.std.specs.Prelude.{◌≡◌};
-ghost use Rattle.readings.specs.Media.{PutsByTheRules};
-ghost use Rattle.readings.specs.Readings.{Readings, WorkedScenesAreSound};
+ghost use Rattle.readings.specs.Readings.{Readings, WorkedPages};
 
-// What the rules say of each example.
-pub fn readings_stand() -> u8
-    ensures answer { result ≡ 0 }
+// What the rules say of each example, and what the programs print for it.
+pub fn readings_stand()
     ensures readings { Readings }
-    ensures scenes { WorkedScenesAreSound }
-    ensures puts { PutsByTheRules }
-{
-    0
-}
+    ensures pages { WorkedPages }
+{}

@@ -21,7 +21,7 @@ use Rattle.plan.specs.declared.records.CopyRecord.{CopyRecord}
 use Rattle.plan.specs.declared.view.PlanView.{PlanView}
 use Rattle.plan.specs.Links.{no_copy}
 use Rattle.plan.proofs.Plans.{boards_within, copies_below}
-use Rattle.sums.specs.Sums.{place_of, sum_at, joined_at, corner_joined, first_corners}
+use Rattle.sums.specs.Sums.{load_fault, place_of, sum_at, joined_at, corner_joined, first_corners}
 use Rattle.sums.specs.Sums.{table_size, HoldsSums}
 use Rattle.sums.proofs.Contributions.{no_corners, corner_here, corner_else, all_corners}
 
@@ -162,6 +162,11 @@ module _ {M : Type 0} (A : Algebra M) (L : Lawful A) where
         (cell_ended (take c s.cells) cell as_many_parts k table e h)
 
 -- ---- setting the copies
+
+-- where nothing is against loading there is room
+pub load_has_room : {M : Type 0} (A : Algebra M) (s : Scene) (records : List CopyRecord) (memory : List M)
+    → load_fault A s records memory ≡ None → length records ≤ length memory
+load_has_room A s records memory allowed = grind arith
 
 -- one element more is written over
 pub over_more : {X Y : Type 0} (f : X → Y) (xs : List X) (ys : List Y) (n : ℕ) (d : X) → n < length xs

@@ -1,6 +1,6 @@
 -- Own sums: what each copy holds when it is loaded, and the table that it is read from.
-use Rattle.std.specs.Prelude.{◌≡◌, ℕ, ◌+◌, ◌*◌, ◌<◌, ◌≤◌, List, ◌++◌, map, length, take, drop, Some, None, Ok, Err}
-use Rattle.std.specs.Prelude.{Option, Result, nat_eq, slice_index_or, slice_set}
+use Rattle.std.specs.Prelude.{◌≡◌, ℕ, ◌+◌, ◌*◌, ◌<◌, cond, List, ◌++◌, map, length, take, drop, Some, None, Ok, Err}
+use Rattle.std.specs.Prelude.{Option, Result, ◌==◌, nat_eq, nat_le, slice_index_or, slice_set}
 use Rattle.element.specs.Algebra.{Algebra}
 use Rattle.element.specs.Join.{join_all}
 use Rattle.element.specs.declared.words.Words.{Words}
@@ -9,21 +9,27 @@ use Rattle.scene.specs.Read.{no_words}
 use Rattle.scene.specs.Sums.{contributions, own_sum}
 use Rattle.plan.specs.declared.records.CopyRecord.{CopyRecord}
 use Rattle.protocol.specs.declared.fault.RunFault.{RunFault}
-use Rattle.protocol.specs.declared.fault.RunFault.TheVariants.{Short}
+use Rattle.protocol.specs.declared.fault.RunFault.TheVariants.{Kind, Short}
 
 -- what each copy holds when it is loaded: its board's own sum at its vertex
 abbrev pub loaded_copies : {M : Type 0} → Algebra M → Scene → List CopyRecord → List M
 loaded_copies A s records = map (λ r. own_sum A s r.board r.vertex) records
 
--- the plan's copies are set, and the memory past them stays; or the memory is too short, and all of it stays
+-- why loading is refused: elements of another kind, then too little memory for the plan's copies
+abbrev pub load_fault : {M : Type 0} → Algebra M → Scene → List CopyRecord → List M → Option RunFault
+load_fault A s records memory =
+    cond (s.kind == A.kind)
+    (cond (nat_le (length records) (length memory)) None (Some (Short (length records))))
+    (Some (Kind s.kind))
+
+-- accepted, the plan's copies are set, and the memory past them stays; refused, all of it stays
 abbrev pub SumsAnswers : {M : Type 0} → Algebra M → Scene → List CopyRecord → List M → List M
     → Result ℕ RunFault → Type 0
 SumsAnswers A s records memory memory' (Ok n) =
-    (n ≡ length records)
-    × (n ≤ length memory)
+    (load_fault A s records memory ≡ None)
     × (memory' ≡ loaded_copies A s records ++ drop (length records) memory)
-SumsAnswers A s records memory memory' (Err f) =
-    (f ≡ Short (length records)) × (length memory < length records) × (memory' ≡ memory)
+    × (n ≡ length records)
+SumsAnswers A s records memory memory' (Err f) = (load_fault A s records memory ≡ Some f) × (memory' ≡ memory)
 
 -- ---- the table of all boards' own sums as words, by board and then vertex
 

@@ -1,10 +1,10 @@
 // A table of what each board's own cells bring to each vertex.
-ghost use Rattle.std.specs.Prelude.{◌≡◌, ℕ, ◌+◌, ◌<◌, ◌≤◌, ◌++◌, length, take, drop};
+ghost use Rattle.std.specs.Prelude.{◌≡◌, ℕ, ◌+◌, ◌<◌, ◌++◌, length, take, drop, None};
 ghost use Rattle.scene.specs.Read.{board_of, corner_of, part_of};
 ghost use Rattle.scene.specs.Sums.{own_sum};
 ghost use Rattle.scene.specs.Views.{viewed};
 ghost use Rattle.sums.specs.Sums.{table_size, place_of, sum_at, corner_joined, HoldsSums};
-ghost use Rattle.sums.specs.Sums.{loaded_copies};
+ghost use Rattle.sums.specs.Sums.{load_fault, loaded_copies};
 
 use element::element::Element;
 use element::words::Words;
@@ -15,7 +15,7 @@ use std::marker::PhantomData;
 
 // The own sums of all boards, by board and then vertex. They stand as words, whose size is known, as that of a
 // type parameter is not.
-// Kept: an array, since fixed memory without a heap is this crate's rule.
+// Kept: an array, since loading refuses another kind and short memory, and may not fail for memory of its own.
 #[derive(Drop)]
 struct OwnSums<E: Element> {
     words: [Words; 8192],
@@ -89,9 +89,9 @@ impl<E: Element> OwnSums<E> {
     }
 }
 
-// Sets each copy of the plan to its board's own sum.
-pub(crate) fn set_own_sums<E: Element>(scene: &SceneView, plan: &PlanView, copies: &mut [E])
-    requires room { length plan.now.copies.now ≤ length copies.old }
+// Sets each copy of the plan to its board's own sum, where nothing is against it.
+pub fn set_own_sums<E: Element>(scene: &SceneView, plan: &PlanView, copies: &mut [E])
+    requires { load_fault E.Element.algebra (viewed scene.now) plan.now.copies.now copies.old ≡ None }
     ensures { copies.new
         ≡ loaded_copies E.Element.algebra (viewed scene.now) plan.now.copies.now
         ++ drop (length plan.now.copies.now) copies.old }

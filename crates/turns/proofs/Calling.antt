@@ -1,10 +1,10 @@
 -- What one frame more, and one board more, add to the calls so far.
-use Rattle.std.proofs.Common.{◌≡◌, ℕ, zero, suc, ◌+◌, ◌<◌, ◌≤◌, Bool, true, false, cond, ◌≢◌, eqb, not, ◌&&◌, refl, sym}
-use Rattle.std.proofs.Common.{ap, ap₂, ◌∙◌, add-one, inl, inr, arith, List, [], ◌∷◌, ◌++◌, length, replicate, Some, None}
+use Rattle.std.proofs.Common.{◌≡◌, ℕ, zero, suc, ◌+◌, ◌<◌, ◌≤◌, Bool, true, false, cond, ◌≢◌, refl}
+use Rattle.std.proofs.Common.{ap, ◌∙◌, add-one, inl, inr, arith, List, [], ◌∷◌, length, replicate, Some, None}
 use Rattle.std.proofs.lemmas.Bool.{cases_eq, eq-eqb, ne_eqb}
-use Rattle.std.proofs.lemmas.List.{append-nil}
+use Rattle.std.proofs.lemmas.List.{append-nil, replicate_more}
 use Rattle.element.specs.Algebra.{Algebra}
-use Rattle.medium.specs.Calls.{Rules, Call, take_call, put_call, Leads, Calls, no_call}
+use Rattle.medium.specs.Calls.{Rules, Call, take_call, put_call, Leads, Calls, no_call, one_call}
 use Rattle.medium.specs.Lanes.{Lanes}
 use Rattle.medium.specs.declared.frame.Frame.{Frame}
 use Rattle.medium.proofs.Calling.{calls_then, call_made}
@@ -24,11 +24,15 @@ lanes_ahead A edges p r (suc k) q l =
     ]
 
 module _ {D : Type 0} (R : Rules D) where
-  -- one call, and then the same k times more
-  pub one_call_more : {d e f : D} (c : Call) (k n : ℕ) → n ≡ suc k → Leads R c d e
-      → Calls R e (replicate (k + 1) c) f → Calls R d (replicate (n + 1) c) f
-  one_call_more c k n count leads later =
-      rw (count, add-one (suc k)) (calls_then (call_made leads) (rw (add-one k) at later))
+  -- one call more of the same
+  pub one_call_more : (k n : ℕ) (c : Call) {d e f : D} → Calls R d (replicate k c) e → Leads R c e f → n ≡ k + 1
+      → Calls R d (replicate n c) f
+  one_call_more k n c {d = d} {e = e} {f = f} before leads more =
+      rw (more, ← replicate_more k c) (one_call (replicate k c) c e f before leads)
+
+  -- and none of it so far
+  pub no_call_yet : (n : ℕ) (c : Call) {d : D} → n ≡ 0 → Calls R d (replicate n c) d
+  no_call_yet n c none = rw none no_call
 
   -- a board takes nothing from itself
   pub no_take_from_itself : (lanes : Lanes) (p q : ℕ) {d e : D} → Calls R d (take_calls lanes p q) e → q ≡ p
@@ -58,14 +62,14 @@ module _ {D : Type 0} (R : Rules D) where
 
   module _ (due : ℕ → Bool) (frame : ℕ → Frame) (p q : ℕ) {d e : D} (before : Calls R d (put_calls due frame p q) e)
     where
-    -- nothing is due to a board from itself
-    pub no_put_to_itself : q ≡ p → Calls R d (put_calls due frame p (q + 1)) e
-    no_put_to_itself same = rw (add-one q, eq-eqb q p same, append-nil (put_calls due frame p q)) before
+      -- nothing is due to a board from itself
+      pub no_put_to_itself : q ≡ p → Calls R d (put_calls due frame p (q + 1)) e
+      no_put_to_itself same = rw (add-one q, eq-eqb q p same, append-nil (put_calls due frame p q)) before
 
-    -- the put to one board more, if one is due
-    pub puts_more : {f : D} → q ≢ p → Calls R e (cond (due q) (put_call p q (frame q) ∷ []) []) f
-        → Calls R d (put_calls due frame p (q + 1)) f
-    puts_more apart later = rw (add-one q, ne_eqb q p apart) (calls_then before later)
+      -- the put to one board more, if one is due
+      pub puts_more : {f : D} → q ≢ p → Calls R e (cond (due q) (put_call p q (frame q) ∷ []) []) f
+          → Calls R d (put_calls due frame p (q + 1)) f
+      puts_more apart later = rw (add-one q, ne_eqb q p apart) (calls_then before later)
 
 -- it is enough that the same is due to the other boards
 pub same_put_calls : (due due' : ℕ → Bool) (frame : ℕ → Frame) (p k : ℕ)

@@ -14,8 +14,7 @@ first_and_rest : (fs : List Frame) (f : Frame) → Some f ≡ first fs → fs �
 first_and_rest [] f e = cc
 first_and_rest (g ∷ gs) f e = cc
 
--- the lane has no oldest frame
-pub none_waits : (fs : List Frame) → None ≡ first fs → fs ≡ []
+none_waits : (fs : List Frame) → None ≡ first fs → fs ≡ []
 none_waits [] e = refl
 none_waits (g ∷ gs) e = cc
 
@@ -44,13 +43,15 @@ module _ (lanes lanes' : Lanes) (q p : ℕ) (after : lanes' ≡ shortened lanes 
       go false fs = refl
 
   -- where none waited, the lane is as good as emptied
-  pub none_left : None ≡ first (lanes q p) → lanes' ≡ emptied q p lanes
-  none_left e = after ∙ fun_ext (λ a. fun_ext (λ b. at a b (same_lane q p a b) refl))
+  pub none_left : (was : Lanes) (found : Option Frame) → found ≡ first (lanes q p) → found ≡ None
+      → emptied q p lanes ≡ emptied q p was → lanes' ≡ emptied q p was
+  none_left was found value none so_far =
+      after ∙ fun_ext (λ a. fun_ext (λ b. at a b (same_lane q p a b) refl)) ∙ so_far
     where
       at : (a b : ℕ) (t : Bool) → same_lane q p a b ≡ t
           → cond t (drop 1 (lanes a b)) (lanes a b) ≡ cond t [] (lanes a b)
       at a b true h =
           let both = and_parts (eqb a q) (eqb b p) h in
           ap (drop 1) (ap (λ x. lanes x b) (eqb-true a q both.0) ∙ ap (lanes q) (eqb-true b p both.1)
-          ∙ none_waits (lanes q p) e)
+          ∙ none_waits (lanes q p) (sym none ∙ value))
       at a b false h = refl

@@ -73,6 +73,7 @@ fn take_frame<E: Element>(
 }
 
 // All frames that wait in the link's lane.
+#[tactic(auto, using(crate::proofs::Calling::one_call_more, crate::proofs::Calling::no_call_yet))]
 fn take_lane<E: Element, D: Medium>(
     link: &LinkView,
     table: &mut LinkTable,

@@ -1,5 +1,6 @@
 // The second half of a turn: putting items and replies.
-ghost use Rattle.std.specs.Prelude.{◌≡◌, ◌+◌, ◌<◌, ◌≤◌, ◌||◌, ◌==◌, true, false, length, cond, nat_le, [], ◌∷◌, Some, None};
+ghost use Rattle.std.specs.Prelude.{◌≡◌, ◌+◌, ◌<◌, ◌≤◌, ◌||◌, ◌==◌, [], ◌∷◌, true, false, length, cond};
+ghost use Rattle.std.specs.Prelude.{nat_le, Some, None};
 ghost use Rattle.medium.specs.Calls.{Calls, rules_of, put_call};
 ghost use Rattle.medium.specs.Lanes.{appended};
 ghost use Rattle.plan.specs.Links.{edges_between};

@@ -11,6 +11,7 @@ use element::element::Element;
 use medium::medium::Medium;
 use plan::view::PlanView;
 use protocol::fault::RunFault;
+use protocol::room::check_room;
 use protocol::table::LinkTable;
 use protocol::tally::TurnCounts;
 
@@ -29,15 +30,12 @@ fn check_turn<'a>(
     if board >= plan.boards() {
         return Err(RunFault::Board { given: board });
     }
-    let needed = plan.copies().len();
-    if room < needed {
-        return Err(RunFault::Short { needed });
-    }
+    check_room(plan, room)?;
     Ok(BoardView { plan, board })
 }
 
-// Board `board` takes all that waits for it, then puts what is due. Outside of a run no turn is counted: a run's limit
-// of turns is its caller's to keep.
+// Board `board` takes all that waits for it, then puts what is due.
+// A run's limit of turns is its caller's to keep: outside of a run no turn is counted.
 pub fn take_turn<E: Element, D: Medium>(
     plan: &PlanView,
     table: &mut LinkTable,

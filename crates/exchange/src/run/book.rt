@@ -1,5 +1,5 @@
 // Reports and ends of a run, with what the book says of them. E is the type of the run's elements.
-ghost use Rattle.std.specs.Prelude.{◌≡◌, ◌<◌, cond, Ok, Err, nat_lt};
+ghost use Rattle.std.specs.Prelude.{◌≡◌, ◌<◌, cond, Ok, Err, nat_lt, MatchResult};
 ghost use Rattle.scene.specs.Cells.{Scene};
 ghost use Rattle.plan.specs.Links.{shape};
 ghost use Rattle.protocol.specs.Books.{lowest_unsettled, report_by};
@@ -41,17 +41,14 @@ pub fn end_by_the_book<E: Element>(
     plan: &PlanView,
     table: &LinkTable,
 ) -> Result<(Ended, Tally), (Turning, RunFault)>
-    ensures exact { elim result [
-      | Ok e ↦ (lowest_unsettled
-          (shape plan.now.boards plan.now.edges.now)
-          (accepted_in table.now.links) ≡ plan.now.boards) × (e.0.tally ≡ turning.tally) ×
-          (e.1 ≡ turning.tally)
-      | Err e ↦ (lowest_unsettled
-          (shape plan.now.boards plan.now.edges.now)
-          (accepted_in table.now.links) < plan.now.boards) × (e.0 ≡ turning) ×
-          (e.1 ≡ RunFault.Early (lowest_unsettled (shape plan.now.boards
-          plan.now.edges.now) (accepted_in table.now.links)))
-    ] }
+    ensures exact { MatchResult result
+        (λ e. (lowest_unsettled (shape plan.now.boards plan.now.edges.now)
+        (accepted_in table.now.links) ≡ plan.now.boards)
+        × (e.0.tally ≡ turning.tally) × (e.1 ≡ turning.tally))
+        (λ e. (lowest_unsettled (shape plan.now.boards plan.now.edges.now)
+        (accepted_in table.now.links) < plan.now.boards) × (e.0 ≡ turning)
+        × (e.1 ≡ RunFault.Early (lowest_unsettled (shape plan.now.boards
+        plan.now.edges.now) (accepted_in table.now.links)))) }
     ensures promise { (s : Scene) → LaidPlan s plan.now.boards
         plan.now.copies.now plan.now.edges.now
         → InEveryRun E.Element.algebra s turning.tally table.now.links

@@ -1,11 +1,11 @@
 // How a run is left, what may be asked of it before, and how a state is put away.
-ghost use Rattle.std.specs.Prelude.{◌≡◌, ◌<◌, not, Ok, Err, nat_lt, MatchOption};
+ghost use Rattle.std.specs.Prelude.{◌≡◌, ◌<◌, not, nat_lt, IfErr, IfOk, MatchOption};
 ghost use Rattle.plan.specs.Links.{shape};
 ghost use Rattle.protocol.specs.Books.{lowest_unsettled};
 ghost use Rattle.protocol.specs.Runs.{accepted_in};
 
 use super::report::report_on;
-use super::{Ended, Loaded, Turning};
+use super::{Ended, Linear, Loaded, Turning};
 use plan::view::PlanView;
 use protocol::fault::RunFault;
 use protocol::table::LinkTable;
@@ -28,23 +28,21 @@ impl Turning {
         plan: &PlanView,
         table: &LinkTable,
     ) -> Result<(Ended, Tally), (Turning, RunFault)>
-        ensures { elim result [
-          | Ok e ↦ (lowest_unsettled
-              (shape plan.now.boards plan.now.edges.now)
-              (accepted_in table.now.links) ≡ plan.now.boards) × (e.0.tally ≡ self.tally) ×
-              (e.1 ≡ self.tally)
-          | Err e ↦ (lowest_unsettled
-              (shape plan.now.boards plan.now.edges.now)
-              (accepted_in table.now.links) < plan.now.boards) × (e.0 ≡ self) ×
-              (e.1 ≡ RunFault.Early (lowest_unsettled (shape plan.now.boards
-              plan.now.edges.now) (accepted_in table.now.links)))
-        ] }
+        ensures ok { IfOk result (λ e. (lowest_unsettled
+            (shape plan.now.boards plan.now.edges.now)
+            (accepted_in table.now.links) ≡ plan.now.boards)
+            × (e.0.tally ≡ self.tally) × (e.1 ≡ self.tally)) }
+        ensures err { IfErr result (λ e. (lowest_unsettled
+            (shape plan.now.boards plan.now.edges.now)
+            (accepted_in table.now.links) < plan.now.boards) × (e.0 ≡ self)
+            × (e.1 ≡ RunFault.Early (lowest_unsettled (shape plan.now.boards
+            plan.now.edges.now) (accepted_in table.now.links)))) }
     {
         if let Some(board) = first_unsettled(plan, table) {
             return Err((self, RunFault::Early { board }));
         }
-        let Turning { tally } = self;
-        Ok((Ended { tally }, tally))
+        let Turning { tally, linear } = self;
+        Ok((Ended { tally, linear }, tally))
     }
 
     // Kept: three states are left by three names, here and below: each is taken apart by its own pattern.
@@ -52,7 +50,10 @@ impl Turning {
     pub fn abandon(self) -> Tally
         ensures { result ≡ self.tally }
     {
-        let Turning { tally: given_up } = self;
+        let Turning {
+            tally: given_up,
+            linear: Linear,
+        } = self;
         given_up
     }
 
@@ -77,7 +78,10 @@ impl Ended {
     pub fn close(self) -> Tally
         ensures { result ≡ self.tally }
     {
-        let Ended { tally: kept } = self;
+        let Ended {
+            tally: kept,
+            linear: Linear,
+        } = self;
         kept
     }
 }
@@ -87,7 +91,10 @@ impl Loaded {
     pub fn discard(self) -> usize
         ensures { result ≡ self.copies }
     {
-        let Loaded { copies: unused } = self;
+        let Loaded {
+            copies: unused,
+            linear: Linear,
+        } = self;
         unused
     }
 }

@@ -1,33 +1,17 @@
 // What an ended run holds.
-ghost use Rattle.std.specs.Prelude.{◌≡◌, ◌<◌, ◌≤◌, length, Some, None, Ok, Err};
+ghost use Rattle.std.specs.Prelude.{◌≡◌, length, Some, None, IfErr, IfOk, OnOk};
 ghost use Rattle.plan.specs.Starts.{values_on};
 ghost use Rattle.exchange.specs.Calls.{show_fault};
 
 use super::Ended;
 use plan::view::PlanView;
 use protocol::fault::RunFault;
-
-// Refuses memory too short for the plan's copies.
-pub(super) fn check_room(plan: &PlanView, room: usize) -> Result<(), RunFault>
-    ensures { elim result [
-      | Ok _ ↦ length plan.now.copies.now ≤ room
-      | Err f ↦ (room < length plan.now.copies.now)
-          × (f ≡ RunFault.Short (length plan.now.copies.now))
-    ] }
-{
-    let needed = plan.copies().len();
-    if room < needed {
-        return Err(RunFault::Short { needed });
-    }
-    Ok(())
-}
+use protocol::room::check_room;
 
 // Refuses short memory, then a board that there is not.
 pub(super) fn check_show(plan: &PlanView, room: usize, board: usize) -> Result<(), RunFault>
-    ensures { elim result [
-      | Ok _ ↦ show_fault plan.now.boards plan.now.copies.now room board ≡ None
-      | Err f ↦ show_fault plan.now.boards plan.now.copies.now room board ≡ Some f
-    ] }
+    ensures ok { OnOk result (show_fault plan.now.boards plan.now.copies.now room board ≡ None) }
+    ensures err { IfErr result (λ f. show_fault plan.now.boards plan.now.copies.now room board ≡ Some f) }
 {
     check_room(plan, room)?;
     if board >= plan.boards() {
@@ -44,14 +28,11 @@ impl Ended {
         copies: &'a [E],
         board: usize,
     ) -> Result<&'a [E], RunFault>
-        ensures { elim result [
-          | Ok s ↦ (show_fault plan.now.boards plan.now.copies.now
-              (length copies.now) board ≡ None) ×
-              (s.now ≡ values_on plan.now.copies.now copies.now board)
-          | Err f ↦
-              show_fault plan.now.boards plan.now.copies.now (length copies.now)
-              board ≡ Some f
-        ] }
+        ensures ok { IfOk result (λ s. (show_fault plan.now.boards plan.now.copies.now
+            (length copies.now) board ≡ None)
+            × (s.now ≡ values_on plan.now.copies.now copies.now board)) }
+        ensures err { IfErr result (λ f. show_fault plan.now.boards plan.now.copies.now
+            (length copies.now) board ≡ Some f) }
     {
         check_show(plan, copies.len(), board)?;
         let part = plan.board_part(board);

@@ -14,7 +14,7 @@ use super::Turning;
 use element::element::Element;
 use medium::medium::Medium;
 use plan::view::PlanView;
-use protocol::fault::RunFault;
+use protocol::fault::{RunFault, TURN_LIMIT};
 use protocol::table::LinkTable;
 use protocol::tally::{Tally, TurnCounts};
 use turns::turn::take_turn;
@@ -25,7 +25,7 @@ impl Turning {
         ensures { result
             ≡ (nat_lt board plan.now.boards && nat_le turn_limit self.now.tally.turns) }
     {
-        board < plan.boards() && self.tally.turns >= 1000000
+        board < plan.boards() && self.tally.turns >= TURN_LIMIT
     }
 
     // One turn more, with its numbers.

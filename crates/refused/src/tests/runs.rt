@@ -1,16 +1,18 @@
-// Calls of a run that are refused.
+// Calls of a run that are refused, and a run after one that was given up.
+ghost use Rattle.std.specs.Prelude.{◌≤◌};
+
 use super::given::{NO_DEPTHS, SOME_FRAME, plan, refusal, scene, started};
 use cabinet::settle::settle;
 use element::depth::Depth;
 use element::tags::Tags;
 use exchange::fault::RunFault;
-use exchange::run::drive::{finish, start_anew};
+use exchange::run::drive::{begin, finish};
 use exchange::run::load::load;
 use exchange::run::{Ended, Loaded, Turning};
 use medium::medium::Medium;
 use medium::queue::Queue;
 use plan::view::PlanView;
-use protocol::table::LinkTable;
+use protocol::table::{Link, LinkTable};
 use std::process::Abort;
 use std::test::Fail;
 
@@ -34,10 +36,12 @@ fn loading_short_memory_is_refused(rt: HostRuntime) {
 }
 
 // How many copies the state counts that came back, and why the start was refused.
-fn start_refusal(medium: &Queue) -> Option<(usize, RunFault)> {
+fn start_refusal(medium: &Queue, table: &mut LinkTable, room: usize) -> Option<(usize, RunFault)>
+    requires { room ≤ 6 }
+{
     let mut values = NO_DEPTHS;
     let loaded = load(&scene(), &plan(), &mut values).ok()?;
-    match loaded.start(&plan(), &mut LinkTable::new(), medium, &values) {
+    match loaded.start(&plan(), table, medium, &values[0..room]) {
         Ok(turning) => {
             turning.abandon();
             None
@@ -51,9 +55,24 @@ fn starting_over_a_waiting_frame_is_refused(rt: HostRuntime) -> Result<(), Fail>
     let mut medium = Queue::new();
     medium.put(5, 3, SOME_FRAME);
     medium.put(4, 6, SOME_FRAME);
-    let (copies, fault) = start_refusal(&medium).ok_or("it started")?;
+    let (copies, fault) = start_refusal(&medium, &mut LinkTable::new(), 6).ok_or("it started")?;
     assert!(rt; copies == 6 && fault == RunFault::Waiting { from: 4, to: 6 });
     assert!(rt; fault.number() == 12 && fault.last() == 6);
+    Ok(())
+}
+
+#[test]
+fn starting_with_short_memory_is_refused(rt: HostRuntime) -> Result<(), Fail> {
+    // A frame waits as well: the smaller number counts.
+    let mut medium = Queue::new();
+    medium.put(5, 3, SOME_FRAME);
+    let mut table = LinkTable::new();
+    table.links[9] = Link { i: 1, j: 1 };
+    let (copies, fault) = start_refusal(&medium, &mut table, 5).ok_or("it started")?;
+    assert!(rt; copies == 6 && fault == RunFault::Short { needed: 6 });
+    assert!(rt; fault.number() == 11 && fault.last() == 6);
+    let kept = table.links[9];
+    assert!(rt; kept == Link { i: 1, j: 1 });
     Ok(())
 }
 
@@ -117,21 +136,27 @@ fn showing_is_refused(rt: HostRuntime) -> Result<(), Fail> {
     }
 }
 
+// A run in which boards 1 and 0 turn twice, and which is given up.
+fn try_out(plan: &PlanView, table: &mut LinkTable, values: &mut [Depth]) -> Result<(), Fail> {
+    let mut worn = Queue::new();
+    let mut turning = started(plan, table, &worn, values)?;
+    for board in [1, 0, 1, 0] {
+        let _ = turning.turn(plan, table, &mut worn, values, board);
+    }
+    turning.abandon();
+    Ok(())
+}
+
 #[test]
-fn a_run_started_anew_ends_with_the_totals(rt: HostRuntime) -> Result<(), Fail> {
+fn a_run_begun_after_another_ends_with_the_totals(rt: HostRuntime) -> Result<(), Fail> {
     let plan = plan();
     let mut table = LinkTable::new();
-    let mut worn = Queue::new();
-    let mut fresh = Queue::new();
+    let mut medium = Queue::new();
     let mut values = NO_DEPTHS;
-    let mut turning = match start_anew(
-        &scene(),
-        &plan,
-        &mut table,
-        &mut worn,
-        &fresh,
-        &mut values,
-    ) {
+    try_out(&plan, &mut table, &mut values)?;
+    // Board 0's own sum there is 1: what the copies hold now are no own sums.
+    assert!(rt; values[2] == Depth { value: 6 });
+    let mut turning = match begin(&scene(), &plan, &mut table, &medium, &mut values) {
         Ok(turning) => turning,
         Err(_) => return Err(Fail::new("the start is refused")),
     };
@@ -142,7 +167,7 @@ fn a_run_started_anew_ends_with_the_totals(rt: HostRuntime) -> Result<(), Fail> 
             turning
         }
     };
-    let _ = settle(&mut turning, &plan, &mut table, &mut fresh, &mut values, 9);
+    let _ = settle(&mut turning, &plan, &mut table, &mut medium, &mut values, 9);
     match finish(turning, &plan, &table, &values, 1) {
         Ok((shown, _)) => {
             assert!(rt;

@@ -25,7 +25,7 @@ returns g c =
     let edges = plan.edges.now in
     let d = c.args.medium in
     let x = snapshot c.in_ok-turning.turning.tally c.begin.new.table.links c.begin.new.copies d in
-    let y = snapshot c.settle.new.turning.tally c.settle.new.table.links c.settle.new.copies c.settle.new.medium in
+    let y = snapshot c.settle_all.new.turning.tally c.settle_all.new.table.links c.settle_all.new.values c.settle_all.new.medium in
     let begun = c.in_ok-turning.ensures in
     let memory = take (length c.copies.result.now) c.args.values.now in
     let same_copies = ap (λ r. length r.now) c.copies.ensures in
@@ -39,7 +39,7 @@ returns g c =
     (begun.promise c.requires.laid) in
     let made = subst (λ (z : Snapshot g.row.E.Denot g.row.D.Denot).
         SettleAnswers A R plan.boards records edges (all_settled (shape plan.boards edges)) circle_limit z y
-        c.settle.result) started_so c.settle.ensures.exact in
+        c.settle_all.result) started_so c.settle_all.ensures in
     let n : PlanNumbers = record {
       boards = c.boards.result;
       overlap = c.overlap.result;
@@ -50,7 +50,7 @@ returns g c =
     let same = same_numbers s records edges n c.boards.ensures c.overlap.ensures (c.from.ensures ∙ c.kind.ensures)
     (ap (λ r. length r.now) c.copies-2.ensures) (ap (λ r. length r.now) c.edges.ensures) in
     IfOk-weaker c.list_turned.result _ _ (λ page e. fresh begun.exact.1
-    (run_listed A g.met.E.Element.lawful R s d y (vec_items page) kept c.settle.result plan.boards records edges
+    (run_listed A g.met.E.Element.lawful R s d y (vec_items page) kept c.settle_all.result plan.boards records edges
     c.requires.laid (
       made,
       e ∙ ap (λ k. head_page k y.tally

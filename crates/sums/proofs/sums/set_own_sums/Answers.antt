@@ -5,7 +5,7 @@ use Rattle.scene.specs.Views.{viewed}
 use Rattle.plan.specs.Links.{no_copy}
 use Rattle.plan.specs.declared.records.CopyRecord.{CopyRecord}
 use Rattle.sums.specs.Sums.{loaded_copies}
-use Rattle.sums.proofs.OwnSums.{copy_low, over_more, over_all}
+use Rattle.sums.proofs.OwnSums.{copy_low, load_has_room, over_more, over_all}
 use Rattle.sums.proofs.sums.set_own_sums.Goals as goal
 
 pub of_copy-requires : goal.of_copy-requires
@@ -24,7 +24,8 @@ loop-n-preserved g c =
     ∙ over_more (λ (r : CopyRecord). own_sum g.E.Element.algebra (viewed c.args.scene.now) r.board r.vertex)
     records.now c.args.copies.now n no_copy c.loop-n-test.true
     (subst (λ (rs : Bor (List CopyRecord)). length rs.now ≤ length c.args.copies.now)
-    (sym c.copies-record-items.ensures) c.requires.room)
+    (sym c.copies-record-items.ensures)
+    (load_has_room g.E.Element.algebra (viewed c.args.scene.now) c.args.plan.now.copies.now c.args.copies.now c.requires))
 
 pub returns : goal.returns
 returns g c =

@@ -1,10 +1,8 @@
 -- Frame by frame, what is left of the lane grows shorter.
-use Rattle.std.proofs.Common.{◌≡◌, ◌||◌, ◌∷◌, length, sym, ap, ◌∙◌, arith}
-use Rattle.medium.specs.Calls.{take_call}
-use Rattle.medium.proofs.Calling.{call_made}
+use Rattle.std.proofs.Common.{◌≡◌, ◌||◌, ◌∷◌, length, sym, ap, ◌∙◌, arith, rules}
 use Rattle.protocol.specs.Frames.{some_item}
 use Rattle.protocol.specs.Steps.{held, frames_step}
-use Rattle.turns.proofs.Taking.{item_so_far, one_taken, same_emptied, none_left, none_waits}
+use Rattle.turns.proofs.Taking.{item_so_far, one_taken, same_emptied, none_left}
 use Rattle.turns.proofs.Calling.{one_call_more}
 use Rattle.turns.proofs.receive.take_lane.Goals as goal
 
@@ -29,19 +27,10 @@ loop-frame-preserved g c =
           ∙ v.item_so;
       taken_so = omega (arith, ap length lane);
       got_so = c.take_frame.ensures.got ∙ v.got_so;
-      calls = λ d later. v.calls d (one_call_more _ (take_call _ _) _ _ (ap length lane)
-          (c.take.ensures.after, c.take.ensures.made) later);
+      calls = one_call_more _ _ _ _ v.calls (c.take.ensures.after, c.take.ensures.made) (omega arith);
+      since = omega arith;
       short = v.short;
     }
 
-pub returns-clause-calls : goal.returns-clause-calls
-returns-clause-calls g c =
-    let none = none_waits _ (sym c.in_default.is ∙ c.take.ensures.value) in
-    c.loop-frame.invariant.calls _ (rw none (call_made (c.take.ensures.after, c.take.ensures.made)))
-
 pub returns-clause-lanes : goal.returns-clause-lanes
-returns-clause-lanes g c =
-    let lanes = g.D.Medium.lanes in
-    none_left (lanes c.loop-frame.medium) (lanes c.take.new.self) c.args.link.now.from c.args.link.now.to
-    c.take.ensures.after (sym c.in_default.is ∙ c.take.ensures.value)
-    ∙ c.loop-frame.invariant.lanes_so
+returns-clause-lanes g c = search (rules, none_left)

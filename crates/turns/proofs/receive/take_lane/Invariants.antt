@@ -1,5 +1,5 @@
 -- What is left in the lane gives, from here, what the whole lane gives from the start.
-use Rattle.std.proofs.Common.{◌≡◌, ◌+◌, ◌≤◌, ◌||◌, length, replicate}
+use Rattle.std.proofs.Common.{◌≡◌, ◌+◌, ◌-◌, ◌≤◌, ◌||◌, length, replicate}
 use Rattle.medium.specs.Calls.{Calls, rules_of, take_call}
 use Rattle.protocol.specs.Frames.{some_item}
 use Rattle.protocol.specs.Steps.{emptied, held, frames_step}
@@ -11,7 +11,6 @@ invariant-loop-frame g l =
     let p = l.link.to in
     let was = g.D.Medium.lanes l.initial.medium in
     let now = g.D.Medium.lanes l.medium in
-    let rules = rules_of g.D.Medium.lanes g.D.Medium.takes g.D.Medium.puts in
     let steps = frames_step g.E.Element.algebra l.link.ups.now l.link.downs.now p q in
     record {
       held_so : steps (now q p) (held l.table.links l.copies l.haul.accepted)
@@ -20,8 +19,9 @@ invariant-loop-frame g l =
       item_so : (l.item || some_item (now q p)) ≡ some_item (was q p);
       taken_so : l.haul.taken + length (now q p) ≡ l.initial.haul.taken + length (was q p);
       got_so : l.haul.got ≡ l.initial.haul.got;
-      calls : (d : g.row.D.Denot) → Calls rules l.medium (replicate (length (now q p) + 1) (take_call q p)) d
-          → Calls rules l.initial.medium (replicate (length (was q p) + 1) (take_call q p)) d;
+      calls : Calls (rules_of g.D.Medium.lanes g.D.Medium.takes g.D.Medium.puts) l.initial.medium
+          (replicate (l.haul.taken - l.initial.haul.taken) (take_call q p)) l.medium;
+      since : l.initial.haul.taken ≤ l.haul.taken;
       short : length (was q p) ≤ 64;
     }
 

@@ -6,8 +6,8 @@ use Rattle.std.proofs.lemmas.Iterator.{first_from_Range}
 use Rattle.std.proofs.lemmas.List.{nil_from_length}
 use Rattle.exchange.proofs.run.start.check_idle.Goals as goal
 
-pub returns-in-Some : goal.returns-in-Some
-returns-in-Some g c =
+pub returns-in-Some-clause-err : goal.returns-in-Some-clause-err
+returns-in-Some-clause-err g c =
     let lanes = g.D.Medium.lanes c.args.medium.now in
     let waits : ℕ → Bool = λ k. ltb 0 (length (lanes (k / 8) (k % 8))) in
     let found = first_from_Range _ _ _ (Some c.in-Some.k) (λ k. waits k ≡ true) (λ k. waits k ≡ false)
@@ -21,8 +21,8 @@ returns-in-Some g c =
       refl,
     )
 
-pub returns-in-None : goal.returns-in-None
-returns-in-None g c =
+pub returns-in-None-clause-ok : goal.returns-in-None-clause-ok
+returns-in-None-clause-ok g c =
     let lanes = g.D.Medium.lanes c.args.medium.now in
     let waits : ℕ → Bool = λ k. ltb 0 (length (lanes (k / 8) (k % 8))) in
     let none = first_from_Range _ _ _ None (λ k. waits k ≡ true) (λ k. waits k ≡ false)

@@ -1,4 +1,4 @@
--- No lane of a new queue holds a frame, and so it looks like every empty queue, itself too.
+-- No lane of a new queue holds a frame, and so it looks like every empty queue.
 use Rattle.medium.specs.Tables.{made_empty}
 use Rattle.medium.proofs.Queues.{empty_alike, queues_fill}
 use Rattle.medium.proofs.queue.Queue.new.Goals as goal
@@ -6,5 +6,4 @@ use Rattle.medium.proofs.queue.Queue.new.Goals as goal
 pub returns : goal.returns
 returns c =
     let none = made_empty c.opened.result 64 c.opened.ensures in
-    let like = empty_alike _ none in
-    record { empty = none; alike = like; decided = like _ none; fills = queues_fill }
+    record { empty = none; alike = empty_alike _ none; fills = queues_fill }

@@ -9,7 +9,6 @@ returns g c =
     let R = rules_of g.M.Medium.lanes g.M.Medium.takes g.M.Medium.puts in
     record {
       parts = (refl, refl);
-      alike = λ t limits like. quotas_alike R R _ t limits like;
       decided = λ like. quotas_alike R R _ _ refl like;
       fills = quota_fills R;
     }

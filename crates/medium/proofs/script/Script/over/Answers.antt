@@ -9,7 +9,6 @@ returns g c =
     let R = rules_of g.M.Medium.lanes g.M.Medium.takes g.M.Medium.puts in
     record {
       parts = (refl, refl);
-      alike = λ t nexts like. scripts_alike R R _ t nexts like;
       decided = λ like. scripts_alike R R _ _ refl like;
       follows = follows_the_table R _ refl;
     }

@@ -1,6 +1,5 @@
 -- Nothing is taken at first; then one lane more.
 use Rattle.std.proofs.Common.{false, replicate, arith, rules}
-use Rattle.std.proofs.lemmas.Grind.{common_steps}
 use Rattle.medium.specs.Calls.{no_call, rules_of}
 use Rattle.protocol.specs.Steps.{received}
 use Rattle.turns.proofs.Calling.{no_take_from_itself, takes_more}
@@ -22,14 +21,14 @@ loop-q-preserved g c =
     let first = received c.args.table.now.links c.args.copies.now 0 (R.lanes c.args.medium.now) 0 (replicate 8 false) in
     elim c.if-q-self.branch [
       | then-q-self w ↦ rw (w.table-is, w.copies-is, w.medium-is, w.haul-is) record {
-          so_far = search rules;
-          calls = takes_more R g.E.Element.algebra c.args.self.now.plan.now.edges.now p c.loop-q.q first _ v.so_far
-              v.calls w.if-q-self.true (rw (w.of.ensures.ends.0, w.of.ensures.ends.1) at w.take_lane.ensures.calls);
-          few = search rules;
-        }
+        so_far = search rules;
+        calls = takes_more R g.E.Element.algebra c.args.self.now.plan.now.edges.now p c.loop-q.q first _ v.so_far
+            v.calls w.if-q-self.true (rw (w.of.ensures.ends.0, w.of.ensures.ends.1) at w.take_lane.ensures.calls);
+        few = search rules;
+      }
       | else-q-self w ↦ rw (w.table-is, w.copies-is, w.medium-is, w.haul-is) record {
-          so_far = search rules;
-          calls = search (rules, no_take_from_itself);
-          few = omega arith;
-        }
+        so_far = search rules;
+        calls = search (rules, no_take_from_itself);
+        few = omega arith;
+      }
     ]
