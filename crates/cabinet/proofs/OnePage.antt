@@ -21,8 +21,9 @@ use Rattle.protocol.specs.Runs.{laid, accepted_in}
 use Rattle.exchange.specs.Calls.{FirstWaiting, IdleBefore}
 use Rattle.circles.specs.Chains.{moment_at, all_settled}
 use Rattle.circles.proofs.One.{circles_have_one_end}
-use Rattle.cabinet.specs.Listed.{record_room, circle_limit, started, Listed, RunTold, fresh, waits, KindTold, SceneTold, Told, PageTold}
-use Rattle.cabinet.specs.Pages.{head_page, numbers_of, boards_page, reports, refused_page}
+use Rattle.cabinet.specs.Listed.{record_room, circle_limit, started, Listed, RunTold, fresh, waits, KindTold, SceneTold}
+use Rattle.cabinet.specs.Listed.{VerdictTold, PageTold}
+use Rattle.cabinet.specs.Pages.{head_page, numbers_of, boards_page, table_report, refused_page}
 use Rattle.cabinet.proofs.Pages.{same_reports}
 use Rattle.cabinet.proofs.Runs.{one_lane_is_first, waiting_is_not_idle}
 use Rattle.protocol.specs.Books.{report_by}
@@ -42,10 +43,12 @@ module _ {D E : Type 0} (R : Rules D) (S : Rules E) (d : D) (e : E) (alike : Loo
         = fun_ext (λ a. fun_ext (λ b. ap (λ l. l.j) (same.links a b))) in
         u.told
         ∙ ap₂ (λ t cs. head_page (numbers_of s (laid_copies s) (laid_edges s)) t
-        ++ boards_page A (reports s.boards (laid_edges s) u.end.links) (laid_copies s) cs s.boards) same.tally same.copies
+        ++ boards_page A (table_report s.boards (laid_edges s) u.end.links)
+        (laid_copies s) cs s.boards) same.tally same.copies
         ∙ ap (λ x. head_page (numbers_of s (laid_copies s) (laid_edges s)) v.end.tally ++ x)
-        (same_reports A (laid_copies s) v.end.copies (reports s.boards (laid_edges s) u.end.links)
-        (reports s.boards (laid_edges s) v.end.links) s.boards (λ p l. ap (λ a. report_by (laid A s) a p) accepted))
+        (same_reports A (laid_copies s) v.end.copies (table_report s.boards (laid_edges s) u.end.links)
+        (table_report s.boards (laid_edges s) v.end.links) s.boards
+        (λ p l. ap (λ a. report_by (laid A s) a p) accepted))
         ∙ sym v.told
 
     one_run : (x y : List ℕ) → RunTold A R s d x → RunTold A S s e y → x ≡ y
@@ -87,7 +90,7 @@ module _ {D E : Type 0} (R : Rules D) (S : Rules E) (d : D) (e : E) (alike : Loo
   pages_are_one bytes x y = by (verdict (scene_rules bytes)) refl
     where
       by : (r : Result (Unit {0}) SceneFault) → verdict (scene_rules bytes) ≡ r
-          → Told R r (scene_of bytes) d x → Told S r (scene_of bytes) e y → x ≡ y
+          → VerdictTold R r (scene_of bytes) d x → VerdictTold S r (scene_of bytes) e y → x ≡ y
       by (Ok _) is u v =
           one_scene (scene_of bytes) (sound bytes (verdict_ok (scene_rules bytes) ∙ ap is_ok is)).kind_known x y u v
       by (Err f) is u v = u ∙ sym v

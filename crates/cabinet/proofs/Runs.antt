@@ -1,5 +1,5 @@
 -- A run that is listed is one that circles led to from a fresh start.
-use Rattle.std.proofs.Common.{◌≡◌, ℕ, ◌+◌, ◌*◌, ◌<◌, ◌≤◌, false,  List, [], ◌++◌, append-nil, length, drop, Some, None, Ok}
+use Rattle.std.proofs.Common.{◌≡◌, ℕ, ◌+◌, ◌*◌, ◌<◌, ◌≤◌, false, List, [], ◌++◌, append-nil, length, drop, Some, None, Ok}
 use Rattle.std.proofs.Common.{rules, Err, Result, refl, ap, ◌∙◌, subst, inl, inr, le_trans, mul-le-mul_right}
 use Rattle.std.proofs.Common.{Option, add-mul}
 use Rattle.std.proofs.Common.{mul-le-mul_left, arith}
@@ -34,7 +34,7 @@ use Rattle.circles.specs.declared.settle.Ending.{Ending}
 use Rattle.circles.specs.declared.settle.Ending.TheVariants.{Met, Limit, OutOfTurns}
 use Rattle.circles.specs.declared.settle.Settling.{Settling}
 use Rattle.circles.proofs.Turns.{circles_carry, circles_counted}
-use Rattle.cabinet.specs.Pages.{head_page, numbers_of, boards_page, reports}
+use Rattle.cabinet.specs.Pages.{head_page, numbers_of, boards_page, table_report}
 use Rattle.cabinet.specs.Listed.{EveryRunOfEachKind, Listed, RunTold, waits, circle_limit, started}
 use Rattle.cabinet.specs.Pages.{refused_page}
 use Rattle.refusals.specs.declared.refusal.Refusal.TheVariants.{Run}
@@ -91,7 +91,7 @@ module _ {M D : Type 0} (A : Algebra M) (law : Lawful A) (R : Rules D) (s : Scen
   TurnedTo r boards records edges =
       SettleAnswers A R boards records edges (all_settled (shape boards edges)) circle_limit (started A s d) y r
       × (page ≡ head_page (numbers_of s records edges) y.tally
-      ++ boards_page A (reports boards edges y.links) records y.copies boards)
+      ++ boards_page A (table_report boards edges y.links) records y.copies boards)
 
   -- there are turns enough for all the circles allowed
   turns_left : Sound s → (k : ℕ) → k < circle_limit

@@ -33,8 +33,9 @@ use Rattle.circles.specs.Circles.{circles}
 use Rattle.circles.proofs.Full.{circles_cut, circles_full}
 use Rattle.circles.proofs.NoLoss.{circles_lose_none}
 use Rattle.listing.specs.Lines.{board_line, copy_line}
-use Rattle.cabinet.specs.Listed.{Listed, RunTold, Told, PageTold, fresh, waits, record_room, circle_limit, started}
-use Rattle.cabinet.specs.Pages.{copies_page, boards_page, reports, head_page, numbers_of}
+use Rattle.cabinet.specs.Listed.{Listed, RunTold, VerdictTold, PageTold, fresh, waits, record_room, circle_limit}
+use Rattle.cabinet.specs.Listed.{started}
+use Rattle.cabinet.specs.Pages.{copies_page, boards_page, table_report, head_page, numbers_of}
 use Rattle.cabinet.specs.Programs.{settled_board, ListsSettled, AlwaysSettles}
 
 -- ---- the page of settled boards
@@ -102,7 +103,7 @@ module _ {M D : Type 0} (A : Algebra M) (law : Lawful A) (R : Rules D) (fills : 
         l.end.tally,
         l.told
             ∙ ap (λ x. head_page (numbers_of s (laid_copies s) (laid_edges s)) l.end.tally ++ x)
-            (settled_boards A s (reports s.boards (laid_edges s) l.end.links) l.end.copies totals s.boards
+            (settled_boards A s (table_report s.boards (laid_edges s) l.end.links) l.end.copies totals s.boards
             (all_reported (laid A s) table none_unsettled)),
       )
 
@@ -120,7 +121,7 @@ module _ {D : Type 0} (R : Rules D) (fills : FillsEmptyLanes R) (d : D) (empty :
   always_settles bytes told accepted few_copies few_edges =
       let s = scene_of bytes in
       let ok = sound bytes (verdict_ok (scene_rules bytes) ∙ ap is_ok accepted) in
-      let kind = (subst (λ v. Told R v s d page) accepted told).runs few_copies few_edges in
+      let kind = (subst (λ v. VerdictTold R v s d page) accepted told).runs few_copies few_edges in
       record {
         forces = λ e. run_settled force_algebra force_lawful s ok few_edges (kind.forces e);
         depths = λ e. run_settled depth_algebra (Prim.search rules) s ok few_edges (kind.depths e);

@@ -16,7 +16,7 @@ use Rattle.laying.specs.Laid.{Laid}
 use Rattle.laying.specs.declared.laying.LaidCounts.{LaidCounts}
 use Rattle.laying.specs.declared.fault.LayFault.TheVariants.{Copies, Edges}
 use Rattle.exchange.specs.Going.{LaidPlan}
-use Rattle.cabinet.specs.Listed.{record_room, KindTold, SceneTold, Told, PageTold}
+use Rattle.cabinet.specs.Listed.{record_room, KindTold, SceneTold, VerdictTold, PageTold}
 use Rattle.cabinet.specs.Prepared.{Hindrance}
 use Rattle.cabinet.specs.Pages.{refused_page}
 use Rattle.refusals.specs.declared.refusal.Refusal.{Refusal}
@@ -56,7 +56,7 @@ no_fault (r ∷ rs) e =
 module _ {D : Type 0} (R : Rules D) (bytes : List ℕ) (d : D) where
   scene_told : (page : List ℕ) → admits bytes ≡ true → SceneTold R (scene_of bytes) d page → PageTold R bytes d page
   scene_told page ok told =
-      subst (λ v. Told R v (scene_of bytes) d page) (sym (no_fault (scene_rules bytes) ok)) told
+      subst (λ v. VerdictTold R v (scene_of bytes) d page) (sym (no_fault (scene_rules bytes) ok)) told
 
   pub run_told : (page : List ℕ) → admits bytes ≡ true → length (laid_copies (scene_of bytes)) ≤ record_room
       → length (laid_edges (scene_of bytes)) ≤ record_room → KindTold R (scene_of bytes) d page
@@ -71,7 +71,7 @@ module _ {D : Type 0} (R : Rules D) (bytes : List ℕ) (d : D) where
       → length copies ≡ record_room → length edges ≡ record_room → Hindrance bytes f copies edges
       → PageTold R bytes d (refused_page f)
   refusal_told (SceneRefused f) copies edges cn en broken =
-      subst (λ v. Told R v (scene_of bytes) d (refused_page (SceneRefused f))) (sym broken) refl
+      subst (λ v. VerdictTold R v (scene_of bytes) d (refused_page (SceneRefused f))) (sym broken) refl
   refusal_told (Lay (Copies n)) copies edges cn en (ok, (needed, short)) = scene_told _ ok record {
     many_copies = λ _. ap (λ k. refused_page (Lay (Copies k))) needed;
     many_edges = λ l _. absurd (omega (arith, l, needed, short, cn));

@@ -72,9 +72,9 @@ pub record SceneTold {D : Type 0} (R : Rules D) (s : Scene) (d : D) (page : List
   pub runs : length (laid_copies s) ≤ record_room → length (laid_edges s) ≤ record_room → KindTold R s d page
 
 -- by the verdict on the bytes: the scene's fault, or what they say
-abbrev pub Told : {D : Type 0} → Rules D → Result (Unit {0}) SceneFault → Scene → D → List ℕ → Type 0
-Told R (Err f) s d page = page ≡ refused_page (SceneRefused f)
-Told R (Ok _) s d page = SceneTold R s d page
+abbrev pub VerdictTold : {D : Type 0} → Rules D → Result (Unit {0}) SceneFault → Scene → D → List ℕ → Type 0
+VerdictTold R (Err f) s d page = page ≡ refused_page (SceneRefused f)
+VerdictTold R (Ok _) s d page = SceneTold R s d page
 
 abbrev pub PageTold : {D : Type 0} → Rules D → List ℕ → D → List ℕ → Type 0
-PageTold R bytes d page = Told R (verdict (scene_rules bytes)) (scene_of bytes) d page
+PageTold R bytes d page = VerdictTold R (verdict (scene_rules bytes)) (scene_of bytes) d page

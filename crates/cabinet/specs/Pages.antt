@@ -1,7 +1,7 @@
 -- The bytes of a page: lines, one after the other.
 use Rattle.std.specs.Prelude.{ℕ, zero, suc, List, [], ◌∷◌, ◌++◌, length, Result, MatchResult, IfOk, Vec, vec_items}
 use Rattle.element.specs.Algebra.{Algebra}
-use Rattle.element.specs.Numbers.{first_of, last_of}
+use Rattle.element.specs.Numbers.{first_number, last_number}
 use Rattle.scene.specs.Cells.{Scene}
 use Rattle.plan.specs.Links.{shape}
 use Rattle.plan.specs.Starts.{copies_on, values_on}
@@ -54,18 +54,18 @@ numbers_of s records edges = record {
 }
 
 -- what is reported of a board where the table has these links
-abbrev pub reports : ℕ → List Edge → List Link → ℕ → Report
-reports boards edges links p = report_by (shape boards edges) (accepted_in links) p
+abbrev pub table_report : ℕ → List Edge → List Link → ℕ → Report
+table_report boards edges links p = report_by (shape boards edges) (accepted_in links) p
 
 -- the listing of a moment of a run: plan, tally, then each board with what is reported of it, and its copies
 abbrev pub listing : {M : Type 0} → Algebra M → Scene → List CopyRecord → List Edge → Moment M → List ℕ
 listing A s records edges m =
     head_page (numbers_of s records edges) m.tally
-    ++ boards_page A (reports s.boards edges m.links) records m.copies s.boards
+    ++ boards_page A (table_report s.boards edges m.links) records m.copies s.boards
 
 -- the one line that tells a refusal: its first number and its last
 abbrev pub refused_page : Refusal → List ℕ
-refused_page f = refusal_line (first_of (refusal_numbers f)) (last_of (refusal_numbers f))
+refused_page f = refusal_line (first_number (refusal_numbers f)) (last_number (refusal_numbers f))
 
 -- this holds of the page, or of a refusal's; or there was no memory for the page
 abbrev pub Paged : {Z E : Type 0} → Result (Result (Vec ℕ Z) E) Refusal → (List ℕ → Type 0) → Type 0

@@ -6,7 +6,7 @@ ghost use Rattle.plan.specs.Links.{shape};
 ghost use Rattle.exchange.specs.Going.{LaidPlan};
 ghost use Rattle.circles.specs.Chains.{all_settled, snapshot};
 ghost use Rattle.circles.specs.Circles.{SettleAnswers};
-ghost use Rattle.cabinet.specs.Pages.{Paged, boards_page, head_page, refused_page, reports};
+ghost use Rattle.cabinet.specs.Pages.{Paged, boards_page, head_page, refused_page, table_report};
 ghost use Rattle.cabinet.specs.Listed.{EveryRunOfEachKind, circle_limit, record_room, RunTold, KindTold, PageTold};
 
 use crate::outcome::{Outcome, Run};
@@ -58,7 +58,7 @@ fn list_turned<'a, E: Element>(
     requires room { length plan.now.copies.now ≤ length values.now }
     ensures { IfOk result (λ page. page.items ≡ head_page numbers turning.tally
         ++ boards_page E.Element.algebra
-        (reports plan.now.boards plan.now.edges.now table.now.links)
+        (table_report plan.now.boards plan.now.edges.now table.now.links)
         plan.now.copies.now values.now plan.now.boards) }
 {
     match end_by_the_book::<E>(turning, plan, table) {

@@ -39,12 +39,12 @@ fn add_head(page: &mut Vec<u8>, numbers: PlanNumbers, tally: Tally) -> Result<()
 }
 
 impl<'a, E: Element> Run<'a, E> {
-    ghost use Rattle.cabinet.specs.Told.{told};
+    ghost use Rattle.cabinet.specs.Told.{run_report};
 
     // Kept: the bound of a board's number, here and in the two below; a type for such numbers would be no plainer.
     fn report(&self, board: usize) -> Report
         requires { board < self.now.plan.now.boards }
-        ensures { result ≡ told self.now board }
+        ensures { result ≡ run_report self.now board }
     {
         match self.outcome {
             Outcome::Ended(_) => Report::Settled,
@@ -81,7 +81,7 @@ impl<'a, E: Element> Run<'a, E> {
         requires { board < self.now.plan.now.boards }
         ensures { OnOk result (page.new.items ≡ page.old.items
             ++ page_of E.Element.algebra
-            (told self.now)
+            (run_report self.now)
             self.now.plan.now.copies.now self.now.values.now board) }
     {
         let part = self.plan.board_part(board);
@@ -92,7 +92,7 @@ impl<'a, E: Element> Run<'a, E> {
     fn add_boards(&self, page: &mut Vec<u8>) -> Result<(), AllocError>
         ensures { OnOk result (page.new.items ≡ page.old.items
             ++ boards_page E.Element.algebra
-            (told self.now)
+            (run_report self.now)
             self.now.plan.now.copies.now self.now.values.now self.now.plan.now.boards) }
     {
         // Kept: a `for` over boards' numbers; there is no slice of boards.
@@ -110,7 +110,7 @@ impl<'a, E: Element> Run<'a, E> {
     ) -> Result<Vec<u8>, AllocError>
         ensures { IfOk result (λ page. page.items ≡ head_page numbers tally
             ++ boards_page E.Element.algebra
-            (told self.now)
+            (run_report self.now)
             self.now.plan.now.copies.now self.now.values.now self.now.plan.now.boards) }
     {
         let mut page = Vec::new(heap);

@@ -1,6 +1,6 @@
 // Lines, one after the other.
 ghost use Rattle.std.specs.Prelude.{◌≡◌, ◌++◌, OnOk};
-ghost use Rattle.listing.specs.Held.{held};
+ghost use Rattle.listing.specs.Held.{line_bytes};
 ghost use Rattle.cabinet.specs.Pages.{copies_page, board_page};
 
 use element::element::Element;
@@ -12,7 +12,7 @@ use std::alloc::AllocError;
 
 pub(crate) fn add_line(page: &mut Vec<u8>, line: &Line) -> Result<(), AllocError>
     ensures { OnOk result (page.new.items ≡ page.old.items
-        ++ held line.now) }
+        ++ line_bytes line.now) }
 {
     page.extend_from_slice(line.bytes())
 }

@@ -13,7 +13,7 @@ use Rattle.medium.specs.Lanes.{Lanes, is_lane, same_lane}
 use Rattle.medium.specs.declared.frame.Frame.{Frame}
 use Rattle.plan.specs.Links.{Shape}
 use Rattle.protocol.specs.Runs.{seen}
-use Rattle.protocol.specs.Turns.{State, sum_others, puts, frame, left, lost}
+use Rattle.protocol.specs.Turns.{State, sum_others, owes, put_frame, left, lost}
 use Rattle.protocol.specs.declared.tally.Tally.{Tally}
 use Rattle.protocol.proofs.Lanes.{same_lane_self}
 use Rattle.turns.specs.Called.{take_calls, put_calls}
@@ -136,15 +136,15 @@ module _ {M D : Type 0} (A : Algebra M) (R : Rules D) (fills : FillsEmptyLanes R
     u = seen A (moment_at R y)
 
     -- a put that is due to an empty lane leaves a frame
-    some_left : (q : ℕ) → q < P.boards → q ≢ p → s.lane p q ≡ [] → puts A P s u p q ≡ true → left A P s u p q ≢ 0
+    some_left : (q : ℕ) → q < P.boards → q ≢ p → s.lane p q ≡ [] → owes A P s u p q ≡ true → left A P s u p q ≢ 0
     some_left q l apart empty due none =
         let is = and_from _ _ (lt-ltb p 8 (omega (arith, t.turn.below))) (lt-ltb q 8 (omega arith)) in
         let gone = nil_from_length (u.lane p q) (omega (arith, none, ap length empty)) in
-        none_due p s.lane (puts A P s u p) (frame A P s u p) q apart R fills is P.boards l x.medium y.medium t.calls
+        none_due p s.lane (owes A P s u p) (put_frame A P s u p) q apart R fills is P.boards l x.medium y.medium t.calls
         gone due
 
     none_lost : ((q : ℕ) → q < P.boards → q ≢ p → s.lane p q ≡ []) → lost A P s u p ≡ 0
-    none_lost empty = sum_of_zeros p P.boards _ (λ q l apart. elim (cases_Bool (puts A P s u p q)) [
+    none_lost empty = sum_of_zeros p P.boards _ (λ q l apart. elim (cases_Bool (owes A P s u p q)) [
       | inl due ↦ rw (due, ne_eqb (left A P s u p q) 0 (some_left q l apart (empty q l apart) due)) refl
       | inr none ↦ rw none refl
     ])

@@ -77,12 +77,25 @@ pub fn settle<E: Element, D: Medium, G: Goal>(
     check_room(plan, copies.len())?;
     for circles in 0..limit {
         if goal.is_met(turning, plan, table) {
-            return Ok(Settling { ending: Ending::Met, circles });
+            return Ok(Settling {
+                ending: Ending::Met,
+                circles,
+            });
         }
         let Ok(_) = circle(turning, plan, table, medium, copies) else {
-            return Ok(Settling { ending: Ending::OutOfTurns, circles });
+            return Ok(Settling {
+                ending: Ending::OutOfTurns,
+                circles,
+            });
         };
     }
-    let ending = if goal.is_met(turning, plan, table) { Ending::Met } else { Ending::Limit };
-    Ok(Settling { ending, circles: limit })
+    let ending = if goal.is_met(turning, plan, table) {
+        Ending::Met
+    } else {
+        Ending::Limit
+    };
+    Ok(Settling {
+        ending,
+        circles: limit,
+    })
 }

@@ -15,8 +15,8 @@ abbrev pub Fits : Words → Type 0
 Fits w = (w.x < 2 ^ 32) × (w.y < 2 ^ 32) × (w.z < 2 ^ 32)
 
 -- the words with those past the used ones set to zero
-abbrev pub kept : ℕ → Words → Words
-kept n w = record { x = cond (nat_lt 0 n) w.x 0; y = cond (nat_lt 1 n) w.y 0; z = cond (nat_lt 2 n) w.z 0 }
+abbrev pub first_words : ℕ → Words → Words
+first_words n w = record { x = cond (nat_lt 0 n) w.x 0; y = cond (nat_lt 1 n) w.y 0; z = cond (nat_lt 2 n) w.z 0 }
 
 pub record Lawful {E : Type 0} (A : Algebra E) : Type 0 where
   pub join_assoc : (a b c : E) → A.join (A.join a b) c ≡ A.join a (A.join b c)
@@ -24,4 +24,4 @@ pub record Lawful {E : Type 0} (A : Algebra E) : Type 0 where
   pub zero_join : (a : E) → A.join A.zero a ≡ a
   pub join_zero : (a : E) → A.join a A.zero ≡ a
   pub unpack_pack : (a : E) → A.unpack (A.pack a) ≡ a
-  pub pack_unpack : (w : Words) → Fits w → A.pack (A.unpack w) ≡ kept A.used w
+  pub pack_unpack : (w : Words) → Fits w → A.pack (A.unpack w) ≡ first_words A.used w

@@ -1,11 +1,11 @@
 -- The first and the last of a refusal's numbers, which every layer lists for each of its faults.
 use Rattle.std.specs.Prelude.{ℕ, List, [], ◌∷◌}
 
-abbrev pub first_of : List ℕ → ℕ
-first_of [] = 0
-first_of (x ∷ xs) = x
+abbrev pub first_number : List ℕ → ℕ
+first_number [] = 0
+first_number (x ∷ xs) = x
 
-abbrev pub last_of : List ℕ → ℕ
-last_of [] = 0
-last_of (x ∷ []) = x
-last_of (x ∷ y ∷ ys) = last_of (y ∷ ys)
+abbrev pub last_number : List ℕ → ℕ
+last_number [] = 0
+last_number (x ∷ []) = x
+last_number (x ∷ y ∷ ys) = last_number (y ∷ ys)

@@ -12,8 +12,8 @@ use Rattle.plan.specs.Sound.{edge_fits, sound_copies, sound_edges, sound_plan}
 use Rattle.forest.specs.Forest.{keeps, laid_copies, laid_edges}
 use Rattle.forest.proofs.Ordered.{Ordered}
 use Rattle.forest.proofs.Copies.{Before, copy, copies_kept, copies_rise}
-use Rattle.forest.proofs.Edges.{LaidEdge, EdgeBefore, edges_laid, edges_rise, leaf_copy, leaf_below}
-use Rattle.forest.proofs.Edges.{root_copy, root_below}
+use Rattle.forest.proofs.Edges.{LaidEdge, EdgeBefore, edges_laid, edges_rise, leaf_is_copy, leaf_below}
+use Rattle.forest.proofs.Edges.{root_is_copy, root_below}
 
 module _ {X : Type 0} where
   each_passes : (t : X → Bool) (xs : List X) → AllByRecursion (λ x. t x ≡ true) xs → each t xs ≡ true
@@ -75,8 +75,8 @@ module _ (s : Scene) (ok : Sound s) where
           (lt-ltb e.vertex 1024 (omega (arith, h.vertex_below, ok.few_vertices)))))
           (and_from _ _ (not_from_false _ (ne_eqb e.from e.to h.apart))
           (and_from _ _
-          (is_copy_at e.leaf e.from e.vertex (leaf_below s e h) (leaf_copy s e h))
-          (is_copy_at e.root e.to e.vertex (root_below s e h) (root_copy s e h))))
+          (is_copy_at e.leaf e.from e.vertex (leaf_below s e h) (leaf_is_copy s e h))
+          (is_copy_at e.root e.to e.vertex (root_below s e h) (root_is_copy s e h))))
 
   pub laid_plan_is_sound : sound_plan s.boards (laid_copies s) (laid_edges s) ≡ true
   laid_plan_is_sound =

@@ -7,7 +7,7 @@ use Rattle.std.proofs.ByRecursion.{All-weaker, All-get_or, All-map}
 use Rattle.plan.specs.declared.records.CopyRecord.{CopyRecord}
 use Rattle.plan.specs.Links.{no_copy}
 use Rattle.scene.specs.Cells.{Scene}
-use Rattle.forest.specs.Forest.{keeps, copies_of, copies_before, laid_copies, number}
+use Rattle.forest.specs.Forest.{keeps, copies_of, copies_up_to, laid_copies, number}
 use Rattle.forest.proofs.Filters.{kept_within, kept_cut, joined_cut, all_joined}
 use Rattle.forest.proofs.Members.{all_given}
 use Rattle.forest.proofs.Ordered.{Ordered, ordered_kept, ordered_map, ordered_joined, ordered_once, ordered_counting}
@@ -25,12 +25,12 @@ not_before_itself x h = elim h [ inl l ↦ omega arith | inr l ↦ omega (arith,
 module _ (s : Scene) where
   -- the copies that stand before board p's copy of v
   abbrev pub copies_ahead : ℕ → ℕ → List CopyRecord
-  copies_ahead p v = copies_before s p ++ map (copy p) (filter (keeps s p) (range_with_len 0 v))
+  copies_ahead p v = copies_up_to s p ++ map (copy p) (filter (keeps s p) (range_with_len 0 v))
 
   pub length_copies_ahead : (p v : ℕ) → length (copies_ahead p v) ≡ number s p v
   length_copies_ahead p v =
-      length-append (copies_before s p) _
-      ∙ ap (λ n. length (copies_before s p) + n) (length-map (filter (keeps s p) (range_with_len 0 v)) (copy p))
+      length-append (copies_up_to s p) _
+      ∙ ap (λ n. length (copies_up_to s p) + n) (length-map (filter (keeps s p) (range_with_len 0 v)) (copy p))
 
   -- where it stands
   pub copy_stands : (p v : ℕ) → p < s.boards → v < s.vertices → keeps s p v ≡ true
@@ -40,19 +40,19 @@ module _ (s : Scene) where
       let (later, k) = kept_cut (keeps s p) v s.vertices vb h in (
         map (copy p) later ++ others,
         e
-            ∙ ap (λ xs. copies_before s p ++ (xs ++ others))
+            ∙ ap (λ xs. copies_up_to s p ++ (xs ++ others))
             (ap (map (copy p)) k ∙ map-append (copy p) (filter (keeps s p) (range_with_len 0 v)) (v ∷ later))
-            ∙ ap (λ xs. copies_before s p ++ xs)
+            ∙ ap (λ xs. copies_up_to s p ++ xs)
             (append_assoc (map (copy p) (filter (keeps s p) (range_with_len 0 v)))
             (copy p v ∷ map (copy p) later) others)
-            ∙ sym (append_assoc (copies_before s p) (map (copy p) (filter (keeps s p) (range_with_len 0 v)))
+            ∙ sym (append_assoc (copies_up_to s p) (map (copy p) (filter (keeps s p) (range_with_len 0 v)))
             (copy p v ∷ (map (copy p) later ++ others))),
       )
 
   -- the number of a copy is its place
-  pub number_at : (p v : ℕ) → p < s.boards → v < s.vertices → keeps s p v ≡ true
+  pub copy_at_number : (p v : ℕ) → p < s.boards → v < s.vertices → keeps s p v ≡ true
       → get_or (laid_copies s) (number s p v) no_copy ≡ copy p v
-  number_at p v pb vb h =
+  copy_at_number p v pb vb h =
       let (rest, e) = copy_stands p v pb vb h in
       ap (λ xs. get_or xs (number s p v) no_copy) e
       ∙ get_or_at (copies_ahead p v) (copy p v) rest no_copy (number s p v) (length_copies_ahead p v)
@@ -100,12 +100,12 @@ module _ (s : Scene) where
         let v : ℕ = (get_or (laid_copies s) c no_copy).vertex in
         ordered_once Before not_before_itself (laid_copies s) no_copy copies_rise (number s p v) c
         (number_below p v copy_board_below copy_vertex_below copy_kept) l
-        (number_at p v copy_board_below copy_vertex_below copy_kept)
+        (copy_at_number p v copy_board_below copy_vertex_below copy_kept)
 
   -- no two copies have one number
   pub number_once : (p q v w : ℕ) → p < s.boards → v < s.vertices → keeps s p v ≡ true
       → q < s.boards → w < s.vertices → keeps s q w ≡ true → number s p v ≡ number s q w → (p ≡ q) × (v ≡ w)
   number_once p q v w pb vb h qb wb k e =
       let same : copy p v ≡ copy q w =
-      sym (number_at p v pb vb h) ∙ ap (λ c. get_or (laid_copies s) c no_copy) e ∙ number_at q w qb wb k in
+      sym (copy_at_number p v pb vb h) ∙ ap (λ c. get_or (laid_copies s) c no_copy) e ∙ copy_at_number q w qb wb k in
       (ap (λ r. r.board) same, ap (λ r. r.vertex) same)

@@ -14,7 +14,7 @@ use Rattle.forest.proofs.Members.{Among, at_among, among_at, among_kept, among_m
 use Rattle.forest.proofs.Filters.{kept_within, among_counted, all_joined, among_joined, length_joined, kept_joined}
 use Rattle.forest.proofs.Ordered.{Ordered, ordered_kept, ordered_map, ordered_joined, ordered_once, ordered_counting}
 use Rattle.forest.proofs.Overlap.{owner_keeps}
-use Rattle.forest.proofs.Copies.{copy, number_at, number_below}
+use Rattle.forest.proofs.Copies.{copy, copy_at_number, number_below}
 
 -- what an edge of the scene's plan is: from a ghost to the copy of its vertex's owner
 pub record LaidEdge (s : Scene) (e : Edge) : Type 0 where
@@ -83,20 +83,20 @@ module _ (s : Scene) where
         let l : owner s e.vertex < s.boards = omega (arith, h.owned, h.to_below) in
         subst (λ q. keeps s q e.vertex ≡ true) h.owned (owner_keeps s e.vertex l)
 
-    pub leaf_copy : get_or (laid_copies s) e.leaf no_copy ≡ copy e.from e.vertex
-    leaf_copy =
+    pub leaf_is_copy : get_or (laid_copies s) e.leaf no_copy ≡ copy e.from e.vertex
+    leaf_is_copy =
         ap (λ c. get_or (laid_copies s) c no_copy) h.leaf_is
-        ∙ number_at s e.from e.vertex h.from_below h.vertex_below h.kept
+        ∙ copy_at_number s e.from e.vertex h.from_below h.vertex_below h.kept
 
     pub leaf_below : e.leaf < length (laid_copies s)
     leaf_below =
         subst (λ c. c < length (laid_copies s)) (sym h.leaf_is)
         (number_below s e.from e.vertex h.from_below h.vertex_below h.kept)
 
-    pub root_copy : get_or (laid_copies s) e.root no_copy ≡ copy e.to e.vertex
-    root_copy =
+    pub root_is_copy : get_or (laid_copies s) e.root no_copy ≡ copy e.to e.vertex
+    root_is_copy =
         ap (λ c. get_or (laid_copies s) c no_copy) h.root_is
-        ∙ number_at s e.to e.vertex h.to_below h.vertex_below root_kept
+        ∙ copy_at_number s e.to e.vertex h.to_below h.vertex_below root_kept
 
     pub root_below : e.root < length (laid_copies s)
     root_below =
@@ -116,7 +116,7 @@ module _ (s : Scene) where
   pub edge_of_leaf : (e f : Edge) → LaidEdge s e → LaidEdge s f → e.leaf ≡ f.leaf → e ≡ f
   edge_of_leaf e f a b same =
       let copies : copy e.from e.vertex ≡ copy f.from f.vertex =
-      sym (leaf_copy e a) ∙ ap (λ c. get_or (laid_copies s) c no_copy) same ∙ leaf_copy f b in
+      sym (leaf_is_copy e a) ∙ ap (λ c. get_or (laid_copies s) c no_copy) same ∙ leaf_is_copy f b in
       same_edge e f a b (ap (λ r. r.board) copies) (ap (λ r. r.vertex) copies)
 
   -- the boards of the edges of one board, and of one pair

@@ -1,7 +1,7 @@
 -- Members of lists: what some element passes, what holds of each, and where a member stands.
 use Rattle.std.proofs.Common.{◌≡◌, ℕ, zero, suc, ◌<◌, Bool, true, false, ◌⊎◌, List, [], ◌∷◌, ◌++◌, map, length}
 use Rattle.std.proofs.Common.{get_or, filter, refl, ap, ◌∙◌, subst, inl, inr, arith}
-use Rattle.std.specs.List.{ContainsAt as Has, AllByRecursion}
+use Rattle.std.specs.List.{ContainsAt, AllByRecursion}
 use Rattle.std.proofs.lemmas.Bool.{cases_Bool, or_cases, or_left, or_right, false≢true}
 use Rattle.forest.specs.Forest.{any}
 
@@ -51,14 +51,14 @@ module _ {X : Type 0} where
   at_among (x ∷ xs) d (suc c) l = inr (at_among xs d c (omega arith))
 
   -- the same by places
-  pub among_has : (xs : List X) (x : X) → Among x xs → Has xs x
+  pub among_has : (xs : List X) (x : X) → Among x xs → ContainsAt xs x
   among_has [] x m = absurd m
   among_has (y ∷ ys) x m = elim m [
     | inl e ↦ (0, omega arith, λ _. e)
     | inr k ↦ let (c, l, at) = among_has ys x k in (suc c, omega arith, at)
   ]
 
-  pub has_among : (xs : List X) (x : X) → Has xs x → Among x xs
+  pub has_among : (xs : List X) (x : X) → ContainsAt xs x → Among x xs
   has_among xs x (c, l, at) = subst (λ y. Among y xs) (at x) (at_among xs x c l)
 
   pub among_left : (xs ys : List X) (x : X) → Among x xs → Among x (xs ++ ys)

@@ -3,18 +3,18 @@ use Rattle.std.proofs.Common.{◌≡◌, ℕ, zero, suc, ◌<◌, true, ◌&&◌
 use Rattle.std.specs.List.{AllByRecursion}
 use Rattle.std.proofs.lemmas.Bool.{eqb-true, and_parts, and_from}
 use Rattle.scene.specs.Cells.{Cell, Scene, Sound}
-use Rattle.forest.specs.Forest.{on, touch, overlaps, keeps, owns_cell_on, owner}
+use Rattle.forest.specs.Forest.{is_corner, touch, overlaps, keeps, owns_cell_on, owner}
 use Rattle.forest.proofs.Members.{Among, any_among, among_any, any_weaker, all_among}
 use Rattle.forest.proofs.Owner.{owner_owns, owner_of_cell}
 
 -- a cell with a corner shares a vertex with itself
-pub touches_itself : (c : Cell) (v : ℕ) → on v c ≡ true → touch c c ≡ true
+pub touches_itself : (c : Cell) (v : ℕ) → is_corner v c ≡ true → touch c c ≡ true
 touches_itself c v o =
-    any_weaker (λ x. eqb x v) (λ x. on x c) (λ x e. rw (eqb-true x v e) o) c.corners o
+    any_weaker (λ x. eqb x v) (λ x. is_corner x c) (λ x e. rw (eqb-true x v e) o) c.corners o
 
 module _ (s : Scene) where
   -- the own cells on v are within every number of layers
-  pub own_within : (m p v : ℕ) (c : Cell) → Among c s.cells → eqb c.board p ≡ true → on v c ≡ true
+  pub own_within : (m p v : ℕ) (c : Cell) → Among c s.cells → eqb c.board p ≡ true → is_corner v c ≡ true
       → overlaps s.cells p m c ≡ true
   own_within zero p v c i b o = b
   own_within (suc m) p v c i b o =
@@ -24,9 +24,9 @@ module _ (s : Scene) where
   -- a board keeps a copy of each vertex that it owns a cell on
   pub keeps_own : (p v : ℕ) → owns_cell_on s p v ≡ true → keeps s p v ≡ true
   keeps_own p v h =
-      let (c, i, t) = any_among (λ c. eqb c.board p && on v c) s.cells h in
+      let (c, i, t) = any_among (λ c. eqb c.board p && is_corner v c) s.cells h in
       let (b, o) = and_parts (eqb c.board p) _ t in
-      among_any (λ c. overlaps s.cells p s.overlap c && on v c) s.cells c i
+      among_any (λ c. overlaps s.cells p s.overlap c && is_corner v c) s.cells c i
       (and_from _ _ (own_within s.overlap p v c i b o) o)
 
   -- where some cell overlaps, the board is one that owns cells
@@ -41,13 +41,13 @@ module _ (s : Scene) where
 
   -- who keeps a copy of v: a board of the scene, of a vertex of the scene, on some cell
   pub kept_on : (p v : ℕ) → keeps s p v ≡ true
-      → (c : Cell) × Among c s.cells × (overlaps s.cells p s.overlap c ≡ true) × (on v c ≡ true)
+      → (c : Cell) × Among c s.cells × (overlaps s.cells p s.overlap c ≡ true) × (is_corner v c ≡ true)
   kept_on p v h =
-      let (c, i, t) = any_among (λ c. overlaps s.cells p s.overlap c && on v c) s.cells h in
+      let (c, i, t) = any_among (λ c. overlaps s.cells p s.overlap c && is_corner v c) s.cells h in
       let (a, b) = and_parts (overlaps s.cells p s.overlap c) _ t in
       (c, i, a, b)
 
-  pub vertex_below : Sound s → (c : Cell) (v : ℕ) → Among c s.cells → on v c ≡ true → v < s.vertices
+  pub vertex_below : Sound s → (c : Cell) (v : ℕ) → Among c s.cells → is_corner v c ≡ true → v < s.vertices
   vertex_below ok c v i o =
       let (x, j, e) = any_among (λ x. eqb x v) c.corners o in
       subst (λ x. x < s.vertices) (eqb-true x v e)

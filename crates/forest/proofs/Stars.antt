@@ -9,9 +9,9 @@ use Rattle.forest.specs.Meaning.{CopyOf, Root, LeadsFrom, StarForest}
 use Rattle.forest.proofs.Members.{among_at}
 use Rattle.forest.proofs.Owner.{owner_below, owning_below}
 use Rattle.forest.proofs.Overlap.{keeps_own, kept_below, kept_is_owned, owner_keeps}
-use Rattle.forest.proofs.Copies.{copy, number_at, number_below, numbered}
+use Rattle.forest.proofs.Copies.{copy, copy_at_number, number_below, numbered}
 use Rattle.forest.proofs.Copies.{copy_board_below, copy_vertex_below, copy_kept}
-use Rattle.forest.proofs.Edges.{edge_laid, leaf_copy, leaf_below, root_copy, root_below}
+use Rattle.forest.proofs.Edges.{edge_laid, leaf_is_copy, leaf_below, root_is_copy, root_below}
 use Rattle.forest.proofs.Edges.{edge_of_leaf, edge_once, ghost_has_edge}
 use Rattle.forest.proofs.Ghosts.{as_many_edges_as_ghosts}
 use Rattle.forest.proofs.Relations.{keeps_says, says_keeps, says_owns, belongs_to_owner, belongs_is_owner}
@@ -20,7 +20,7 @@ module _ (s : Scene) (ok : Sound s) where
   kept_once : (p v : ℕ) → keeps s p v ≡ true → ExactlyOne (CopyOf s p v)
   kept_once p v h =
       let (pb, vb) = kept_below s ok p v h in
-      let at = number_at s p v pb vb h in (
+      let at = copy_at_number s p v pb vb h in (
         number s p v,
         (number_below s p v pb vb h, ap (λ r. r.board) at, ap (λ r. r.vertex) at),
         λ c (l, b, w). sym (numbered s c l) ∙ ap₂ (number s) b w,
@@ -57,7 +57,7 @@ module _ (s : Scene) (ok : Sound s) where
   no_edge_from_root c r e (l, is) =
       let h = edge_laid s e l in
       let at : copy_at s c ≡ copy (edge_at s e).from (edge_at s e).vertex =
-      ap (copy_at s) (sym is) ∙ leaf_copy s (edge_at s e) h in
+      ap (copy_at s) (sym is) ∙ leaf_is_copy s (edge_at s e) h in
       h.apart (sym (ap (λ x. x.board) at) ∙ root_of_owner c r ∙ ap (λ x. owner s x.vertex) at ∙ h.owned)
 
   one_edge_from_ghost : (c : ℕ) → c < length (laid_copies s)
@@ -91,8 +91,8 @@ module _ (s : Scene) (ok : Sound s) where
       × Root s (edge_at s e).root × ((edge_at s e).from ≢ (edge_at s e).to)
   edges_lead_to_roots e l =
       let h = edge_laid s e l in
-      let leaf = leaf_copy s (edge_at s e) h in
-      let root = root_copy s (edge_at s e) h in
+      let leaf = leaf_is_copy s (edge_at s e) h in
+      let root = root_is_copy s (edge_at s e) h in
       let below : owner s (edge_at s e).vertex < s.boards =
       subst (λ q. q < s.boards) (sym h.owned) h.to_below in (
         (leaf_below s (edge_at s e) h, ap (λ x. x.board) leaf, ap (λ x. x.vertex) leaf),

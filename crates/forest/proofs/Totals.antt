@@ -14,7 +14,7 @@ use Rattle.plan.specs.declared.records.Edge.{Edge}
 use Rattle.plan.specs.Links.{edges_between}
 use Rattle.scene.specs.Cells.{Cell, Scene, Sound}
 use Rattle.scene.specs.Sums.{at_vertex, contributions, own_sum, undivided}
-use Rattle.forest.specs.Forest.{any, on, keeps, owns_cell_on, owner, number, ghost_of, edge_to, laid_edges}
+use Rattle.forest.specs.Forest.{any, is_corner, keeps, owns_cell_on, owner, number, ghost_of, edge_to, laid_edges}
 use Rattle.forest.proofs.Members.{Among}
 use Rattle.forest.proofs.Filters.{kept_within, among_counted}
 use Rattle.forest.proofs.Ordered.{Ordered, ordered_kept, ordered_counting}
@@ -28,11 +28,11 @@ nothing_at v [] ps h = refl
 nothing_at v (x ∷ xs) [] h = refl
 nothing_at v (x ∷ xs) (p ∷ ps) h = let (a, b) = or_parts (eqb x v) _ h in rw a (nothing_at v xs ps b)
 
-nothing_from : (p v : ℕ) (cs : List Cell) → any (λ c. eqb c.board p && on v c) cs ≡ false
+nothing_from : (p v : ℕ) (cs : List Cell) → any (λ c. eqb c.board p && is_corner v c) cs ≡ false
     → contributions (λ c. eqb c.board p) v cs ≡ []
 nothing_from p v [] h = refl
 nothing_from p v (c ∷ cs) h =
-    let (a, b) = or_parts (eqb c.board p && on v c) _ h in
+    let (a, b) = or_parts (eqb c.board p && is_corner v c) _ h in
     elim (cases_Bool (eqb c.board p)) [
       | inl e ↦ rw (e, nothing_at v c.corners c.parts (rw e at a), nothing_from p v cs b)
       | inr e ↦ rw e (nothing_from p v cs b)
@@ -112,12 +112,12 @@ module _ {E : Type 0} (A : Algebra E) (L : Lawful A) where
 
 module _ {E : Type 0} (A : Algebra E) (L : Lawful A) (s : Scene) where
   -- what an edge of board p brings to the copy with number c: the own sum of p, if c is the edge's root
-  abbrev pub brings : ℕ → ℕ → Edge → E
-  brings p c e = cond (eqb e.root c) (own_sum A s p e.vertex) A.zero
+  abbrev pub edge_part : ℕ → ℕ → Edge → E
+  edge_part p c e = cond (eqb e.root c) (own_sum A s p e.vertex) A.zero
 
   -- what the edges from board p to board q bring to it
   abbrev pub brought : ℕ → ℕ → ℕ → E
-  brought p q c = join_all A (map (brings p c) (edges_between (laid_edges s) p q))
+  brought p q c = join_all A (map (edge_part p c) (edges_between (laid_edges s) p q))
 
   module _ (p q v : ℕ) (pb : p < s.boards) (qb : q < s.boards) (vb : v < s.vertices)
       (o : owner s v ≡ q) (d : p ≢ q) where
@@ -137,7 +137,7 @@ module _ {E : Type 0} (A : Algebra E) (L : Lawful A) (s : Scene) where
     pub brought_is : brought p q (number s q v) ≡ own_sum A s p v
     unfolding share
     brought_is =
-        ap (λ es. join_all A (map (brings p (number s q v)) es))
+        ap (λ es. join_all A (map (edge_part p (number s q v)) es))
         (between_is s p q pb qb)
         ∙ ap (join_all A) (map-map _ (edge_to s p q) (filter (ghost_of s p q) (range_with_len 0 s.vertices)))
         ∙ elim (cases_Bool (keeps s p v)) [
@@ -164,7 +164,7 @@ module _ {E : Type 0} (A : Algebra E) (L : Lawful A) (s : Scene) where
 
   pub brought_to_itself : (q c : ℕ) → brought q q c ≡ A.zero
   brought_to_itself q c =
-      ap (λ es. join_all A (map (brings q c) es)) (between_self s q)
+      ap (λ es. join_all A (map (edge_part q c) es)) (between_self s q)
 
   -- the total at a root: its own sum, and what the edges bring
   pub total_at_root : Sound s → (q v : ℕ) → q < s.boards → v < s.vertices → owner s v ≡ q

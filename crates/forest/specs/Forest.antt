@@ -12,12 +12,12 @@ any t [] = false
 any t (x ∷ xs) = t x || any t xs
 
 -- the vertex v is a corner of the cell
-abbrev pub on : ℕ → Cell → Bool
-on v c = any (λ x. nat_eq x v) c.corners
+abbrev pub is_corner : ℕ → Cell → Bool
+is_corner v c = any (λ x. nat_eq x v) c.corners
 
 -- the two cells share a vertex
 abbrev pub touch : Cell → Cell → Bool
-touch c d = any (λ x. on x c) d.corners
+touch c d = any (λ x. is_corner x c) d.corners
 
 -- the cell is among those of board p and m layers around them
 abbrev pub overlaps : List Cell → ℕ → ℕ → Cell → Bool
@@ -26,11 +26,11 @@ overlaps cells p (suc m) c = any (λ d. overlaps cells p m d && touch c d) cells
 
 -- board p keeps a copy of v
 abbrev pub keeps : Scene → ℕ → ℕ → Bool
-keeps s p v = any (λ c. overlaps s.cells p s.overlap c && on v c) s.cells
+keeps s p v = any (λ c. overlaps s.cells p s.overlap c && is_corner v c) s.cells
 
 -- board p owns a cell on v
 abbrev pub owns_cell_on : Scene → ℕ → ℕ → Bool
-owns_cell_on s p v = any (λ c. (c.board == p) && on v c) s.cells
+owns_cell_on s p v = any (λ c. (c.board == p) && is_corner v c) s.cells
 
 -- the lowest number below n that passes, or n
 abbrev pub lowest : (ℕ → Bool) → ℕ → ℕ
@@ -45,15 +45,15 @@ owner s v = lowest (λ p. owns_cell_on s p v) s.boards
 abbrev pub copies_of : Scene → ℕ → List CopyRecord
 copies_of s p = map (λ v. record { board = p; vertex = v }) (filter (keeps s p) (range_with_len 0 s.vertices))
 
-abbrev pub copies_before : Scene → ℕ → List CopyRecord
-copies_before s p = flat_map (copies_of s) (range_with_len 0 p)
+abbrev pub copies_up_to : Scene → ℕ → List CopyRecord
+copies_up_to s p = flat_map (copies_of s) (range_with_len 0 p)
 
 abbrev pub laid_copies : Scene → List CopyRecord
-laid_copies s = copies_before s s.boards
+laid_copies s = copies_up_to s s.boards
 
 -- the number of board p's copy of v: how many copies stand before it
 abbrev pub number : Scene → ℕ → ℕ → ℕ
-number s p v = length (copies_before s p) + length (filter (keeps s p) (range_with_len 0 v))
+number s p v = length (copies_up_to s p) + length (filter (keeps s p) (range_with_len 0 v))
 
 -- board p keeps a ghost of v, whose root is on board q
 abbrev pub ghost_of : Scene → ℕ → ℕ → ℕ → Bool

@@ -1,7 +1,7 @@
 -- What a laid plan is: a star forest on the copies of the scene's vertices.
 use Rattle.std.specs.Prelude.{◌≡◌, ℕ, suc, ◌<◌, ◌≤◌, Bool, true, not, ◌≢◌, ◌⊎◌, List, length, filter, ◌==◌}
 use Rattle.std.specs.Prelude.{slice_index_or}
-use Rattle.std.specs.List.{ContainsAt as Has}
+use Rattle.std.specs.List.{ContainsAt}
 use Rattle.scene.specs.Cells.{Cell, Scene, Sound}
 use Rattle.plan.specs.declared.records.CopyRecord.{CopyRecord}
 use Rattle.plan.specs.declared.records.Edge.{Edge}
@@ -15,21 +15,21 @@ ExactlyOne P = (n : ℕ) × P n × ((m : ℕ) → P m → m ≡ n)
 
 -- v is a corner of the cell
 abbrev pub Corner : ℕ → Cell → Type 0
-Corner v c = Has c.corners v
+Corner v c = ContainsAt c.corners v
 
 -- the cell is one of board p's, or one of the m layers around them: it shares a vertex with a cell of the layer before
 pub data Within (cells : List Cell) (p : ℕ) : ℕ → Cell → Type 0 where
   own : {c : Cell} → c.board ≡ p → Within cells p 0 c
-  around : {m : ℕ} {c : Cell} (d : Cell) (x : ℕ) → Within cells p m d → Has cells d → Corner x c → Corner x d
+  around : {m : ℕ} {c : Cell} (d : Cell) (x : ℕ) → Within cells p m d → ContainsAt cells d → Corner x c → Corner x d
       → Within cells p (suc m) c
 
 module _ (s : Scene) where
   -- board p keeps a copy of v: v is a corner of a cell within the scene's number of layers
   abbrev pub Keeps : ℕ → ℕ → Type 0
-  Keeps p v = (c : Cell) × Has s.cells c × Within s.cells p s.overlap c × Corner v c
+  Keeps p v = (c : Cell) × ContainsAt s.cells c × Within s.cells p s.overlap c × Corner v c
 
   abbrev pub OwnsCellOn : ℕ → ℕ → Type 0
-  OwnsCellOn p v = (c : Cell) × Has s.cells c × (c.board ≡ p) × Corner v c
+  OwnsCellOn p v = (c : Cell) × ContainsAt s.cells c × (c.board ≡ p) × Corner v c
 
   -- a vertex belongs to the lowest board that owns a cell on it
   abbrev pub BelongsTo : ℕ → ℕ → Type 0

@@ -9,7 +9,7 @@ use Rattle.std.proofs.lemmas.List.{get_or-set_same, get_or-set_other}
 use Rattle.std.proofs.lemmas.Nat.{one_shl, pow_pos}
 use Rattle.std.proofs.lemmas.Nat.Bits.{bit_at-pow_same, bit_at-pow_other, bit_at-trailing_zeros, bit_at-lt, and_pow}
 use Rattle.element.specs.Models.{bit}
-use Rattle.laying.specs.BoardSets.{has, at}
+use Rattle.laying.specs.BoardSets.{has, board_set_at}
 use Rattle.laying.specs.Tables.{lowest_below}
 use Rattle.laying.specs.declared.board_set.BoardSet.{BoardSet}
 use Rattle.laying.proofs.Lowest.{lowest_found}
@@ -34,22 +34,22 @@ lowest_bit n some few =
 
 -- boards that come to the vertex x
 pub added : (sets : List BoardSet) (x v p : ℕ) (new : BoardSet) (h : Bool) → x < length sets
-    → has new p ≡ (has (at sets x) p || h)
-    → has (at (set sets x new) v) p ≡ (has (at sets v) p || (h && eqb x v))
+    → has new p ≡ (has (board_set_at sets x) p || h)
+    → has (board_set_at (set sets x new) v) p ≡ (has (board_set_at sets v) p || (h && eqb x v))
 added sets x v p new h low is =
     elim (cases_eq v x) [
       | inl e ↦
-          ap (λ k. has (at (set sets x new) k) p) e
+          ap (λ k. has (board_set_at (set sets x new) k) p) e
           ∙ ap (λ s. has s p) (get_or-set_same sets x new (record { bits = 0 }) low)
           ∙ is
-          ∙ ap (λ k. has (at sets k) p || h) (sym e)
-          ∙ ap (λ b. has (at sets v) p || b) (sym (ap (λ b. h && b) (eq-eqb x v (sym e)) ∙ and-true h))
+          ∙ ap (λ k. has (board_set_at sets k) p || h) (sym e)
+          ∙ ap (λ b. has (board_set_at sets v) p || b) (sym (ap (λ b. h && b) (eq-eqb x v (sym e)) ∙ and-true h))
       | inr n ↦
           ap (λ s. has s p) (get_or-set_other sets x v new (record { bits = 0 }) n)
           ∙ sym
-          (ap (λ b. has (at sets v) p || (h && b)) (ne_eqb x v (λ e. n (sym e)))
-          ∙ ap (λ b. has (at sets v) p || b) (and-false h)
-          ∙ or-false (has (at sets v) p))
+          (ap (λ b. has (board_set_at sets v) p || (h && b)) (ne_eqb x v (λ e. n (sym e)))
+          ∙ ap (λ b. has (board_set_at sets v) p || b) (and-false h)
+          ∙ or-false (has (board_set_at sets v) p))
     ]
 
 -- boards that come to some vertices, and to one more

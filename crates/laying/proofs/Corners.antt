@@ -10,7 +10,7 @@ use Rattle.scene.specs.declared.view.SceneView.{SceneView}
 use Rattle.scene.proofs.Reading.{corner_some}
 use Rattle.scene.proofs.Soundness.{corners_count}
 use Rattle.scene.proofs.Viewing.{view_sound}
-use Rattle.laying.specs.Seen.{cell_at, ReadFrom}
+use Rattle.laying.specs.Seen.{cell_numbered, ReadFrom}
 use Rattle.laying.specs.Tables.{row}
 
 -- a list of three, one by one
@@ -23,18 +23,18 @@ three (a ∷ b ∷ c ∷ d ∷ xs) h = absurd (omega arith)
 
 module _ (v : SceneView) (c : ℕ) (h : c < length (viewed v).cells) where
   -- a cell that is there is on one of eight boards
-  pub board_low : (cell_at (viewed v).cells c).board < 8
+  pub board_low : (cell_numbered (viewed v).cells c).board < 8
   board_low =
       let s = viewed v in
       let ok = view_sound v in
       omega (arith, ok.few_boards, All-get_or (λ x. x.board < s.boards) s.cells c no_cell h ok.owned)
 
   -- it has three corners
-  pub corners_three : length (cell_at (viewed v).cells c).corners ≡ 3
+  pub corners_three : length (cell_numbered (viewed v).cells c).corners ≡ 3
   corners_three = All-get_or (λ x. length x.corners ≡ 3) (viewed v).cells c no_cell h (corners_count v.bytes.now)
 
   -- their vertices are low
-  pub corners_low : AllByRecursion (λ x. x < 1024) (cell_at (viewed v).cells c).corners
+  pub corners_low : AllByRecursion (λ x. x < 1024) (cell_numbered (viewed v).cells c).corners
   corners_low =
       let s = viewed v in
       let ok = view_sound v in
@@ -42,21 +42,21 @@ module _ (v : SceneView) (c : ℕ) (h : c < length (viewed v).cells) where
       (λ x. x < s.vertices)
       (λ x. x < 1024)
       (λ x l. omega (arith, ok.few_vertices))
-      (cell_at s.cells c).corners
+      (cell_numbered s.cells c).corners
       (All-get_or (λ x. AllByRecursion (λ y. y < s.vertices) x.corners) s.cells c no_cell h ok.on_vertices)
 
   pub corner_there : (k : ℕ) → k < 3
-      → corner_of (viewed v) c k ≡ Some (get_or (cell_at (viewed v).cells c).corners k 0)
+      → corner_of (viewed v) c k ≡ Some (get_or (cell_numbered (viewed v).cells c).corners k 0)
   corner_there k l = corner_some (viewed v) c h k (omega (arith, corners_three))
 
-  pub corner_low : (k : ℕ) → k < 3 → get_or (cell_at (viewed v).cells c).corners k 0 < 1024
+  pub corner_low : (k : ℕ) → k < 3 → get_or (cell_numbered (viewed v).cells c).corners k 0 < 1024
   corner_low k l =
-      let corners = (cell_at (viewed v).cells c).corners in
+      let corners = (cell_numbered (viewed v).cells c).corners in
       All-get_or (λ x. x < 1024) corners k 0 (omega (arith, corners_three)) corners_low
 
 -- the rows of a longer table, as many as there are cells
 pub read_from : (v : SceneView) (table : List (List ℕ)) (n : ℕ) → n ≡ length (viewed v).cells → length table ≡ 1024
-    → ((c : ℕ) → c < length (viewed v).cells → row table c ≡ (cell_at (viewed v).cells c).corners)
+    → ((c : ℕ) → c < length (viewed v).cells → row table c ≡ (cell_numbered (viewed v).cells c).corners)
     → ReadFrom (viewed v) (take n table)
 read_from v table n is long each =
     record {

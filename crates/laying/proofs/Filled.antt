@@ -5,9 +5,9 @@ use Rattle.std.proofs.Common.{add-zero, arith}
 use Rattle.std.specs.List.{flat_map}
 use Rattle.std.proofs.lemmas.List.{length-append, length-take-le, length-drop}
 use Rattle.laying.specs.Filled.{HasRoom, Appends}
-use Rattle.laying.specs.Rows.{gathered, placed}
+use Rattle.laying.specs.Rows.{lists_below, placed}
 use Rattle.laying.specs.declared.filling.Filling.{Filling}
-use Rattle.laying.proofs.Gather.{gathered_more, room, placed_none, placed_front, placed_more}
+use Rattle.laying.proofs.Gather.{lists_below_more, room, placed_none, placed_front, placed_more}
 use Rattle.laying.proofs.Joined.{joined_more, joined_room}
 
 module _ {X : Type 0} where
@@ -50,15 +50,15 @@ module _ {X : Type 0} where
 
   -- where the lists below i were appended, list number i follows
   module _ (h : ℕ → List X) (i n : ℕ) (f g : Filling X) where
-    pub room_left : i < n → HasRoom f (gathered h n) → Appends f g (gathered h i) → HasRoom g (h i)
+    pub room_left : i < n → HasRoom f (lists_below h n) → Appends f g (lists_below h i) → HasRoom g (h i)
     room_left l fits a =
         let left = room h i n l in
-        room_behind f g (gathered h i) (h i) (omega arith) a
+        room_behind f g (lists_below h i) (h i) (omega arith) a
 
-    pub appends_more : i < n → HasRoom f (gathered h n) → (k : Filling X) → Appends f g (gathered h i)
-        → Appends g k (h i) → Appends f k (gathered h (i + 1))
+    pub appends_more : i < n → HasRoom f (lists_below h n) → (k : Filling X) → Appends f g (lists_below h i)
+        → Appends g k (h i) → Appends f k (lists_below h (i + 1))
     appends_more l fits k a b =
-        rw (gathered_more h i) (appends_both f g (gathered h i) (h i) (omega arith) k a b)
+        rw (lists_below_more h i) (appends_both f g (lists_below h i) (h i) (omega arith) k a b)
 
   -- where the lists of the elements before place i were appended, that of the element there follows
   module _ {Y : Type 0} (h : Y → List X) (ys : List Y) (i : ℕ) (y : Y) (low : i < length ys) (is : y ≡ get_or ys i y)

@@ -7,10 +7,10 @@ use Rattle.std.proofs.lemmas.Bool.{cases_eq, le-ltb}
 use Rattle.std.proofs.lemmas.Bool.Decides.{nat_tests}
 use Rattle.std.proofs.lemmas.List.{append_assoc, length-append, take-append-drop, take_at, drop_at, drop-drop}
 use Rattle.std.proofs.lemmas.List.{length-take-le, set_split}
-use Rattle.laying.specs.Rows.{some, many, passes, gathered, only, placed}
+use Rattle.laying.specs.Rows.{some, many, passes, lists_below, only, placed}
 
-pub gathered_more : {X : Type 0} (f : ℕ → List X) (n : ℕ) → gathered f (n + 1) ≡ gathered f n ++ f n
-gathered_more f n = ap (gathered f) (add-one n)
+pub lists_below_more : {X : Type 0} (f : ℕ → List X) (n : ℕ) → lists_below f (n + 1) ≡ lists_below f n ++ f n
+lists_below_more f n = ap (lists_below f) (add-one n)
 
 pub some_more : (t : ℕ → Bool) (n : ℕ) → some t (n + 1) ≡ (some t n || t n)
 some_more t n = ap (some t) (add-one n)
@@ -29,36 +29,36 @@ length_one false x = refl
 
 -- as many records as numbers that pass
 pub length_only : {X : Type 0} (t : ℕ → Bool) (f : ℕ → X) (n : ℕ)
-    → length (gathered (λ v. only (t v) (f v)) n) ≡ many t n
+    → length (lists_below (λ v. only (t v) (f v)) n) ≡ many t n
 length_only t f zero = refl
 length_only t f (suc n) =
     omega (
       arith,
-      length-append (gathered (λ v. only (t v) (f v)) n) (only (t n) (f n)),
+      length-append (lists_below (λ v. only (t v) (f v)) n) (only (t n) (f n)),
       length_only t f n,
       length_one (t n) (f n),
     )
 
 pub length_more : {X : Type 0} (f : ℕ → List X) (n : ℕ)
-    → length (gathered f (n + 1)) ≡ length (gathered f n) + length (f n)
-length_more f n = ap length (gathered_more f n) ∙ length-append (gathered f n) (f n)
+    → length (lists_below f (n + 1)) ≡ length (lists_below f n) + length (f n)
+length_more f n = ap length (lists_below_more f n) ∙ length-append (lists_below f n) (f n)
 
 -- what is gathered below n has room for each list
 pub room : {X : Type 0} (f : ℕ → List X) (i n : ℕ) → i < n
-    → length (gathered f i) + length (f i) ≤ length (gathered f n)
+    → length (lists_below f i) + length (f i) ≤ length (lists_below f n)
 room f i zero h = absurd (omega arith)
 room f i (suc n) h =
     elim (cases_eq i n) [
       | inl e ↦
           omega (
             arith,
-            length-append (gathered f n) (f n),
-            ap (λ k. length (gathered f k)) e,
+            length-append (lists_below f n) (f n),
+            ap (λ k. length (lists_below f k)) e,
             ap (λ k. length (f k)) e,
           )
       | inr d ↦
           let below : i < n = omega arith in
-          omega (arith, room f i n below, length-append (gathered f n) (f n))
+          omega (arith, room f i n below, length-append (lists_below f n) (f n))
     ]
 
 -- one number equals m, if it is below n
@@ -79,29 +79,29 @@ many_one None n = omega (arith, none_pass n)
 many_one (Some m) n = omega (arith, many_eqb m n, byte_le (ltb m n))
 
 module _ {X : Type 0} (f : ℕ → ℕ → List X) where
-  rows_none : (b : ℕ) → length (gathered (λ q. gathered (f q) 0) b) ≡ 0
+  rows_none : (b : ℕ) → length (lists_below (λ q. lists_below (f q) 0) b) ≡ 0
   rows_none zero = refl
   rows_none (suc b) =
-      omega (arith, length-append (gathered (λ q. gathered (f q) 0) b) (gathered (f b) 0), rows_none b)
+      omega (arith, length-append (lists_below (λ q. lists_below (f q) 0) b) (lists_below (f b) 0), rows_none b)
 
   -- each row goes on by one list
   rows_more : (n b : ℕ)
-      → length (gathered (λ q. gathered (f q) (suc n)) b)
-      ≡ length (gathered (λ q. gathered (f q) n) b) + length (gathered (λ q. f q n) b)
+      → length (lists_below (λ q. lists_below (f q) (suc n)) b)
+      ≡ length (lists_below (λ q. lists_below (f q) n) b) + length (lists_below (λ q. f q n) b)
   rows_more n zero = refl
   rows_more n (suc b) =
       omega (
         arith,
         rows_more n b,
-        length-append (gathered (λ q. gathered (f q) (suc n)) b) (gathered (f b) (suc n)),
-        length-append (gathered (f b) n) (f b n),
-        length-append (gathered (λ q. gathered (f q) n) b) (gathered (f b) n),
-        length-append (gathered (λ q. f q n) b) (f b n),
+        length-append (lists_below (λ q. lists_below (f q) (suc n)) b) (lists_below (f b) (suc n)),
+        length-append (lists_below (f b) n) (f b n),
+        length-append (lists_below (λ q. lists_below (f q) n) b) (lists_below (f b) n),
+        length-append (lists_below (λ q. f q n) b) (f b n),
       )
 
   -- rows that have at most one element at each number, all rows together
-  pub rows_few : (b n : ℕ) → ((v : ℕ) → length (gathered (λ q. f q v) b) ≤ 1)
-      → length (gathered (λ q. gathered (f q) n) b) ≤ n
+  pub rows_few : (b n : ℕ) → ((v : ℕ) → length (lists_below (λ q. f q v) b) ≤ 1)
+      → length (lists_below (λ q. lists_below (f q) n) b) ≤ n
   rows_few b zero h = omega (arith, rows_none b)
   rows_few b (suc n) h = omega (arith, rows_more n b, rows_few b n h, h n)
 

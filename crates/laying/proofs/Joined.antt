@@ -6,15 +6,15 @@ use Rattle.std.proofs.Math.Bool.{and-true, and-false}
 use Rattle.std.proofs.lemmas.Grind.{flat_map-append}
 use Rattle.std.proofs.lemmas.List.{append-nil, take_more, flat_map_more}
 use Rattle.std.proofs.lemmas.List.Folds.{length-flat_map-take}
-use Rattle.laying.specs.Rows.{gathered, only}
+use Rattle.laying.specs.Rows.{lists_below, only}
 
 module _ {X Y : Type 0} where
   -- the lists of all that was gathered
   pub joined_all : (f : X → List Y) (g : ℕ → List X) (n : ℕ)
-      → flat_map f (gathered g n) ≡ gathered (λ k. flat_map f (g k)) n
+      → flat_map f (lists_below g n) ≡ lists_below (λ k. flat_map f (g k)) n
   joined_all f g zero = refl
   joined_all f g (suc n) =
-      flat_map-append f (gathered g n) (g n) ∙ ap (λ l. l ++ flat_map f (g n)) (joined_all f g n)
+      flat_map-append f (lists_below g n) (g n) ∙ ap (λ l. l ++ flat_map f (g n)) (joined_all f g n)
 
   -- what one test lets through, and then the other
   pub joined_only : (t : X → Bool) (f : X → Y) (b : Bool) (x : X)

@@ -7,9 +7,9 @@ use Rattle.std.proofs.lemmas.Bool.{cases_eq}
 use Rattle.std.proofs.lemmas.Bool.Decides.{nat_tests}
 use Rattle.scene.specs.Cells.{Cell}
 use Rattle.scene.specs.Read.{no_cell}
-use Rattle.forest.specs.Forest.{any, on, touch, overlaps}
-use Rattle.laying.specs.Seen.{cell_at}
-use Rattle.laying.specs.Reached.{reached}
+use Rattle.forest.specs.Forest.{any, is_corner, touch, overlaps}
+use Rattle.laying.specs.Seen.{cell_numbered}
+use Rattle.laying.specs.Reached.{is_reached}
 use Rattle.laying.specs.Rows.{some}
 use Rattle.laying.specs.Tables.{row}
 use Rattle.laying.proofs.Anys.{any_same, any_same_all, any_and, any_swap, some_same, some_any}
@@ -33,56 +33,56 @@ eqb_sym : (a b : ℕ) → eqb a b ≡ eqb b a
 eqb_sym a b = grind (arith, nat_tests)
 
 -- to share a vertex, either way round
-touch_sym : (c d : Cell) → any (λ x. on x d) c.corners ≡ touch c d
+touch_sym : (c d : Cell) → any (λ x. is_corner x d) c.corners ≡ touch c d
 touch_sym c d =
     any_swap (λ x y. eqb y x) c.corners d.corners
     ∙ any_same
     (λ y. any (λ x. eqb y x) c.corners)
-    (λ y. on y c)
+    (λ y. is_corner y c)
     (λ y. any_same (λ x. eqb y x) (λ x. eqb x y) (λ x. eqb_sym y x) c.corners)
     d.corners
 
 -- a vertex around m + 1 layers is one of a cell that has a vertex around m
-module _ (cs : List Cell) (p m : ℕ) (near : ℕ → Bool) (is : (v : ℕ) → v < 1024 → near v ≡ reached cs p m v) where
+module _ (cs : List Cell) (p m : ℕ) (near : ℕ → Bool) (is : (v : ℕ) → v < 1024 → near v ≡ is_reached cs p m v) where
   next_layer : (c : Cell) → AllByRecursion (λ v. v < 1024) c.corners
       → any near c.corners ≡ overlaps cs p (suc m) c
   next_layer c low =
       let t = overlaps cs p m in
-      any_same_all (λ v. v < 1024) near (reached cs p m) is c.corners low
-      ∙ any_swap (λ x d. t d && on x d) c.corners cs
+      any_same_all (λ v. v < 1024) near (is_reached cs p m) is c.corners low
+      ∙ any_swap (λ x d. t d && is_corner x d) c.corners cs
       ∙ any_same
-      (λ d. any (λ x. t d && on x d) c.corners)
+      (λ d. any (λ x. t d && is_corner x d) c.corners)
       (λ d. t d && touch c d)
-      (λ d. any_and (t d) (λ x. on x d) c.corners ∙ ap (λ b. t d && b) (touch_sym c d))
+      (λ d. any_and (t d) (λ x. is_corner x d) c.corners ∙ ap (λ b. t d && b) (touch_sym c d))
       cs
 
   pub reached_next : (corners : List (List ℕ)) → length corners ≡ length cs
-      → ((c : ℕ) → c < length cs → row corners c ≡ (cell_at cs c).corners)
-      → ((c : ℕ) → c < length cs → AllByRecursion (λ v. v < 1024) (cell_at cs c).corners)
+      → ((c : ℕ) → c < length cs → row corners c ≡ (cell_numbered cs c).corners)
+      → ((c : ℕ) → c < length cs → AllByRecursion (λ v. v < 1024) (cell_numbered cs c).corners)
       → (v : ℕ)
       → some (λ c. any near (row corners c) && any (λ x. eqb x v) (row corners c)) (length corners)
-      ≡ reached cs p (suc m) v
+      ≡ is_reached cs p (suc m) v
   reached_next corners all each low v =
       ap (some (λ c. any near (row corners c) && any (λ x. eqb x v) (row corners c))) all
       ∙ some_same
       (λ c. any near (row corners c) && any (λ x. eqb x v) (row corners c))
-      (λ c. overlaps cs p (suc m) (cell_at cs c) && on v (cell_at cs c))
+      (λ c. overlaps cs p (suc m) (cell_numbered cs c) && is_corner v (cell_numbered cs c))
       (length cs)
       (λ c l.
       ap (λ xs. any near xs && any (λ x. eqb x v) xs) (each c l)
-      ∙ ap (λ b. b && on v (cell_at cs c)) (next_layer (cell_at cs c) (low c l)))
-      ∙ some_any (λ d. overlaps cs p (suc m) d && on v d) cs no_cell
+      ∙ ap (λ b. b && is_corner v (cell_numbered cs c)) (next_layer (cell_numbered cs c) (low c l)))
+      ∙ some_any (λ d. overlaps cs p (suc m) d && is_corner v d) cs no_cell
 
 -- a vertex is one of a board if it is on a cell of the board
 pub owned_is : (cs : List Cell) (p v : ℕ) (corners : List (List ℕ)) → length corners ≡ length cs
-    → ((c : ℕ) → c < length cs → row corners c ≡ (cell_at cs c).corners)
-    → some (λ c. eqb (cell_at cs c).board p && any (λ x. eqb x v) (row corners c)) (length corners)
-    ≡ reached cs p 0 v
+    → ((c : ℕ) → c < length cs → row corners c ≡ (cell_numbered cs c).corners)
+    → some (λ c. eqb (cell_numbered cs c).board p && any (λ x. eqb x v) (row corners c)) (length corners)
+    ≡ is_reached cs p 0 v
 owned_is cs p v corners all each =
-    ap (some (λ c. eqb (cell_at cs c).board p && any (λ x. eqb x v) (row corners c))) all
+    ap (some (λ c. eqb (cell_numbered cs c).board p && any (λ x. eqb x v) (row corners c))) all
     ∙ some_same
-    (λ c. eqb (cell_at cs c).board p && any (λ x. eqb x v) (row corners c))
-    (λ c. eqb (cell_at cs c).board p && on v (cell_at cs c))
+    (λ c. eqb (cell_numbered cs c).board p && any (λ x. eqb x v) (row corners c))
+    (λ c. eqb (cell_numbered cs c).board p && is_corner v (cell_numbered cs c))
     (length cs)
-    (λ c l. ap (λ xs. eqb (cell_at cs c).board p && any (λ x. eqb x v) xs) (each c l))
-    ∙ some_any (λ d. eqb d.board p && on v d) cs no_cell
+    (λ c l. ap (λ xs. eqb (cell_numbered cs c).board p && any (λ x. eqb x v) xs) (each c l))
+    ∙ some_any (λ d. eqb d.board p && is_corner v d) cs no_cell

@@ -2,16 +2,16 @@
 use Rattle.std.proofs.Common.{◌≡◌, ℕ, zero, suc, ◌*◌, ◌<◌, ◌≤◌, Bool, false, List, [], ◌++◌, length}
 use Rattle.std.proofs.Common.{get_or, take, eqb, None, Option}
 use Rattle.std.proofs.Common.{sym, ap, ◌∙◌, inl, inr, arith}
-use Rattle.laying.specs.Rows.{flag, many, only, passes}
-use Rattle.laying.specs.Tables.{row, copy_record, copy_at, row_copies, board_copies, copies_in, number_in}
+use Rattle.laying.specs.Rows.{flag_at, many, only, passes}
+use Rattle.laying.specs.Tables.{row, copy_record, copy_if_kept, row_copies, board_copies, copies_in, number_in}
 use Rattle.laying.specs.Tables.{root_at, roots_in}
-use Rattle.laying.proofs.Counts.{gathered_same, many_same}
+use Rattle.laying.proofs.Counts.{lists_below_same, many_same}
 use Rattle.laying.proofs.Gather.{length_only, many_le, many_one, rows_few}
 use Rattle.std.proofs.lemmas.Bool.{cases_lt}
 use Rattle.std.proofs.lemmas.List.{length-append, length-take-le, append-nil, take_all, get_or_past, get_or-take}
 
-pub row_size : (keep : List Bool) (p n : ℕ) → length (row_copies keep p n) ≡ many (flag keep) n
-row_size keep p n = length_only (flag keep) (copy_record p) n
+pub row_size : (keep : List Bool) (p n : ℕ) → length (row_copies keep p n) ≡ many (flag_at keep) n
+row_size keep p n = length_only (flag_at keep) (copy_record p) n
 
 pub copies_few : (table : List (List Bool)) (n p : ℕ) → n ≤ 1024 → length (copies_in table n p) ≤ 1024 * p
 copies_few table n zero h = omega arith
@@ -21,7 +21,7 @@ copies_few table n (suc p) h =
       length-append (copies_in table n p) (board_copies table n p),
       copies_few table n p h,
       row_size (row table p) p n,
-      many_le (flag (row table p)) n,
+      many_le (flag_at (row table p)) n,
     )
 
 -- a vertex has at most one root
@@ -36,8 +36,9 @@ roots_few owners n b =
     omega (arith, length_only (λ q. passes (λ x. eqb x q) o) (λ q. copy_record q v) b, many_one o b))
 
 -- the numbers below v stay in a row cut after n vertices
-pub flags_taken : (row : List Bool) (n v : ℕ) → v ≤ n → many (flag (take n row)) v ≡ many (flag row) v
-flags_taken row n v h = many_same (flag (take n row)) (flag row) v (λ k l. get_or-take n row k false (omega arith))
+pub flags_taken : (row : List Bool) (n v : ℕ) → v ≤ n → many (flag_at (take n row)) v ≡ many (flag_at row) v
+flags_taken row n v h =
+    many_same (flag_at (take n row)) (flag_at row) v (λ k l. get_or-take n row k false (omega arith))
 
 -- past a row's end no flag is set
 copies_past : (keep : List Bool) (p n : ℕ) → length keep ≤ n → row_copies keep p n ≡ row_copies keep p (length keep)
@@ -61,7 +62,7 @@ copies_taken keep p n =
     elim (cases_lt n (length keep)) [
       | inl h ↦
           ap (row_copies (take n keep) p) (length-take-le n keep (omega arith))
-          ∙ gathered_same (copy_at (take n keep) p) (copy_at keep p) n
+          ∙ lists_below_same (copy_if_kept (take n keep) p) (copy_if_kept keep p) n
           (λ v l. ap (λ b. only b (copy_record p v)) (get_or-take n keep v false l))
       | inr h ↦ ap (λ r. row_copies r p (length r)) (take_all n keep h) ∙ sym (copies_past keep p n h)
     ]
@@ -79,12 +80,12 @@ module _ (table : List (List Bool)) (b n p : ℕ) (h : p < b) where
 pub number_taken : (table : List (List Bool)) (b n p v : ℕ) → p < b
     → number_in (take b table) n p v ≡ number_in table n p v
 number_taken table b n p v h =
-    let same = gathered_same (board_copies (take b table) n) (board_copies table n) p
+    let same = lists_below_same (board_copies (take b table) n) (board_copies table n) p
     (λ q l. ap (λ r. row_copies r q n) (is_row table b n q (omega arith))) in
-    omega (arith, ap length same, ap (λ r. many (flag r) v) (is_row table b n p h))
+    omega (arith, ap length same, ap (λ r. many (flag_at r) v) (is_row table b n p h))
 
 -- the copies of the first b rows
 pub rows_taken : (table : List (List Bool)) (b n : ℕ) → copies_in (take b table) n b ≡ copies_in table n b
 rows_taken table b n =
-    gathered_same (board_copies (take b table) n) (board_copies table n) b
+    lists_below_same (board_copies (take b table) n) (board_copies table n) b
     (λ q l. ap (λ r. row_copies r q n) (is_row table b n q l))

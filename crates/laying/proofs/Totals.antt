@@ -11,17 +11,17 @@ use Rattle.forest.specs.Meaning.{is_ghost}
 use Rattle.forest.proofs.Overlap.{owner_keeps}
 use Rattle.forest.proofs.Ghosts.{as_many_edges_as_ghosts}
 use Rattle.laying.specs.declared.root.Root.{Root}
-use Rattle.laying.specs.Rows.{many, gathered, only, passes}
+use Rattle.laying.specs.Rows.{many, lists_below, only, passes}
 use Rattle.laying.specs.Tables.{owning, copy_record, root_copy, row_roots, roots_in}
-use Rattle.laying.proofs.Counts.{joined_gathered, gathered_same, picked, many_same}
+use Rattle.laying.proofs.Counts.{joined_lists_below, lists_below_same, picked, many_same}
 use Rattle.laying.proofs.Gather.{length_only}
 use Rattle.laying.proofs.Lowest.{lowest_is}
 
-filter_gathered : {X : Type 0} (t : X → Bool) (f : ℕ → List X) (n : ℕ)
-    → filter t (gathered f n) ≡ gathered (λ k. filter t (f k)) n
-filter_gathered t f zero = refl
-filter_gathered t f (suc n) =
-    filter-append t (gathered f n) (f n) ∙ ap (λ l. l ++ filter t (f n)) (filter_gathered t f n)
+filter_lists_below : {X : Type 0} (t : X → Bool) (f : ℕ → List X) (n : ℕ)
+    → filter t (lists_below f n) ≡ lists_below (λ k. filter t (f k)) n
+filter_lists_below t f zero = refl
+filter_lists_below t f (suc n) =
+    filter-append t (lists_below f n) (f n) ∙ ap (λ l. l ++ filter t (f n)) (filter_lists_below t f n)
 
 filter_only : {X : Type 0} (t : X → Bool) (b : Bool) (x : X) → filter t (only b x) ≡ only (b && t x) x
 filter_only t true x = refl
@@ -38,16 +38,16 @@ many_split t u w (suc n) h =
 
 lengths_split : {X : Type 0} (f g h : ℕ → List X) (n : ℕ)
     → ((k : ℕ) → k < n → length (f k) ≡ length (g k) + length (h k))
-    → length (gathered f n) ≡ length (gathered g n) + length (gathered h n)
+    → length (lists_below f n) ≡ length (lists_below g n) + length (lists_below h n)
 lengths_split f g h zero split = refl
 lengths_split f g h (suc n) split =
     let so_far = lengths_split f g h n (λ k l. split k (omega arith)) in
     omega (
       arith,
       split n (omega arith),
-      length-append (gathered f n) (f n),
-      length-append (gathered g n) (g n),
-      length-append (gathered h n) (h n),
+      length-append (lists_below f n) (f n),
+      length-append (lists_below g n) (g n),
+      length-append (lists_below h n) (h n),
     )
 
 not_its_own : (b : Bool) → bool_byte b ≡ bool_byte (b && true) + bool_byte false
@@ -73,10 +73,10 @@ module _ (s : Scene) (ok : Sound s) where
   ghosts_of p =
       let ghost = is_ghost s in
       ap (λ l. length (filter ghost l)) (picked (copy_record p) (keeps s p) s.vertices)
-      ∙ ap length (filter_gathered ghost (λ v. only (keeps s p v) (copy_record p v)) s.vertices)
+      ∙ ap length (filter_lists_below ghost (λ v. only (keeps s p v) (copy_record p v)) s.vertices)
       ∙ ap
       length
-      (gathered_same
+      (lists_below_same
       (λ v. filter ghost (only (keeps s p v) (copy_record p v)))
       (λ v. only (keeps s p v && not (eqb p (owner s v))) (copy_record p v))
       s.vertices
@@ -113,9 +113,9 @@ module _ (s : Scene) (ok : Sound s) where
         omega (
           arith,
           as_many_edges_as_ghosts s ok,
-          ap length (joined_gathered (copies_of s) s.boards),
-          ap (λ l. length (filter (is_ghost s) l)) (joined_gathered (copies_of s) s.boards),
-          ap length (filter_gathered (is_ghost s) (copies_of s) s.boards),
+          ap length (joined_lists_below (copies_of s) s.boards),
+          ap (λ l. length (filter (is_ghost s) l)) (joined_lists_below (copies_of s) s.boards),
+          ap length (filter_lists_below (is_ghost s) (copies_of s) s.boards),
           lengths_split
               (copies_of s)
               (λ p. filter (is_ghost s) (copies_of s p))

@@ -8,9 +8,9 @@ abbrev pub has : BoardSet → ℕ → Bool
 has s p = bit s.bits p
 
 -- the set at a place of a row
-abbrev pub at : List BoardSet → ℕ → BoardSet
-at sets k = slice_index_or sets k (record { bits = 0 })
+abbrev pub board_set_at : List BoardSet → ℕ → BoardSet
+board_set_at sets k = slice_index_or sets k (record { bits = 0 })
 
 -- board p is in the set at a place below n if it passes the test there
 abbrev pub TellsAll : List BoardSet → ℕ → (ℕ → ℕ → Bool) → Type 0
-TellsAll sets n t = (p k : ℕ) → k < n → has (at sets k) p ≡ t p k
+TellsAll sets n t = (p k : ℕ) → k < n → has (board_set_at sets k) p ≡ t p k

@@ -8,8 +8,8 @@ abbrev pub Tells : List Bool → ℕ → (ℕ → Bool) → Type 0
 Tells row n t = (k : ℕ) → k < n → slice_index_or row k false ≡ t k
 
 -- the numbers of a row below n are the function's values
-abbrev pub Holds : List ℕ → ℕ → (ℕ → ℕ) → Type 0
-Holds row n f = (k : ℕ) → k < n → slice_index_or row k 0 ≡ f k
+abbrev pub Tabulates : List ℕ → ℕ → (ℕ → ℕ) → Type 0
+Tabulates row n f = (k : ℕ) → k < n → slice_index_or row k 0 ≡ f k
 
 -- some number below n passes
 abbrev pub some : (ℕ → Bool) → ℕ → Bool
@@ -22,8 +22,8 @@ many t zero = 0
 many t (suc n) = many t n + bool_byte (t n)
 
 -- the flag at a place of a row
-abbrev pub flag : List Bool → ℕ → Bool
-flag row v = slice_index_or row v false
+abbrev pub flag_at : List Bool → ℕ → Bool
+flag_at row v = slice_index_or row v false
 
 -- there is a number, and it passes
 abbrev pub passes : (ℕ → Bool) → Option ℕ → Bool
@@ -31,9 +31,9 @@ passes t None = false
 passes t (Some x) = t x
 
 -- the lists of the numbers below n, one after another
-abbrev pub gathered : {X : Type 0} → (ℕ → List X) → ℕ → List X
-gathered f zero = []
-gathered f (suc n) = gathered f n ++ f n
+abbrev pub lists_below : {X : Type 0} → (ℕ → List X) → ℕ → List X
+lists_below f zero = []
+lists_below f (suc n) = lists_below f n ++ f n
 
 -- x alone if the test passes, else nothing
 abbrev pub only : {X : Type 0} → Bool → X → List X

@@ -2,7 +2,7 @@
 use Rattle.std.specs.Prelude.{ℕ, Bool, List}
 use Rattle.plan.specs.declared.records.CopyRecord.{CopyRecord}
 use Rattle.plan.specs.declared.records.Edge.{Edge}
-use Rattle.laying.specs.Tables.{row, copies_in, root_copy, ghost_in, edge_at, board_edges, edges_in}
+use Rattle.laying.specs.Tables.{row, copies_in, root_copy, ghost_in, edge_if_ghost, board_edges, edges_in}
 use Rattle.laying.specs.declared.root.Root.{Root}
 use Rattle.laying.specs.declared.tables.Tables.{Tables}
 
@@ -15,8 +15,8 @@ abbrev pub ghost_at : Tables → ℕ → Root → Bool
 ghost_at t p r = ghost_in (row t.kept p) p (root_copy r)
 
 -- the edge from board p to the root, if there is one
-abbrev pub edge_to : Tables → ℕ → Root → List Edge
-edge_to t p r = edge_at t.kept t.numbers p (root_copy r)
+abbrev pub edge_to_root : Tables → ℕ → Root → List Edge
+edge_to_root t p r = edge_if_ghost t.kept t.numbers p (root_copy r)
 
 -- the edges from board p, and from all boards
 abbrev pub edges_from : Tables → ℕ → List Edge

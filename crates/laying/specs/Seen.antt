@@ -7,14 +7,14 @@ use Rattle.scene.specs.declared.view.SceneView.{SceneView}
 use Rattle.laying.specs.Tables.{row}
 
 -- cell number c
-abbrev pub cell_at : List Cell → ℕ → Cell
-cell_at cs c = slice_index_or cs c no_cell
+abbrev pub cell_numbered : List Cell → ℕ → Cell
+cell_numbered cs c = slice_index_or cs c no_cell
 
 -- cell number c of the scene that a view shows
 abbrev pub cell_of : SceneView → ℕ → Cell
-cell_of v c = cell_at (viewed v).cells c
+cell_of v c = cell_numbered (viewed v).cells c
 
 -- a table of the corners of all cells
 pub record ReadFrom (s : Scene) (corners : List (List ℕ)) : Type 0 where
   pub all : length corners ≡ length s.cells
-  pub each : (c : ℕ) → c < length s.cells → row corners c ≡ (cell_at s.cells c).corners
+  pub each : (c : ℕ) → c < length s.cells → row corners c ≡ (cell_numbered s.cells c).corners

@@ -5,7 +5,7 @@ use Rattle.std.specs.Prelude.{slice_index_or}
 use Rattle.std.specs.List.{flat_map}
 use Rattle.scene.specs.Cells.{Scene}
 use Rattle.forest.specs.Forest.{lowest, owns_cell_on}
-use Rattle.laying.specs.Rows.{flag, passes, many, gathered, only}
+use Rattle.laying.specs.Rows.{flag_at, passes, many, lists_below, only}
 use Rattle.laying.specs.declared.root.Root.{Root}
 use Rattle.plan.specs.declared.records.CopyRecord.{CopyRecord}
 use Rattle.plan.specs.declared.records.Edge.{Edge}
@@ -19,23 +19,23 @@ abbrev pub copy_record : ℕ → ℕ → CopyRecord
 copy_record p v = record { board = p; vertex = v }
 
 -- the same, if it keeps one
-abbrev pub copy_at : List Bool → ℕ → ℕ → List CopyRecord
-copy_at keep p v = only (flag keep v) (copy_record p v)
+abbrev pub copy_if_kept : List Bool → ℕ → ℕ → List CopyRecord
+copy_if_kept keep p v = only (flag_at keep v) (copy_record p v)
 
 -- the copies of board p, of n vertices
 abbrev pub row_copies : List Bool → ℕ → ℕ → List CopyRecord
-row_copies keep p n = gathered (copy_at keep p) n
+row_copies keep p n = lists_below (copy_if_kept keep p) n
 
 abbrev pub board_copies : List (List Bool) → ℕ → ℕ → List CopyRecord
 board_copies table n p = row_copies (row table p) p n
 
 -- the copies of the boards below p
 abbrev pub copies_in : List (List Bool) → ℕ → ℕ → List CopyRecord
-copies_in table n p = gathered (board_copies table n) p
+copies_in table n p = lists_below (board_copies table n) p
 
 -- the number of board p's copy of v: how many copies stand before it
 abbrev pub number_in : List (List Bool) → ℕ → ℕ → ℕ → ℕ
-number_in table n p v = length (copies_in table n p) + many (flag (row table p)) v
+number_in table n p v = length (copies_in table n p) + many (flag_at (row table p)) v
 
 -- the lowest number below n that passes, if one does
 abbrev pub lowest_below : (ℕ → Bool) → ℕ → Option ℕ
@@ -58,15 +58,15 @@ root_at owners q v = root_if (slice_index_or owners v None) q v
 
 -- the roots of board q, of n vertices
 abbrev pub row_roots : List (Option ℕ) → ℕ → ℕ → List CopyRecord
-row_roots owners n q = gathered (root_at owners q) n
+row_roots owners n q = lists_below (root_at owners q) n
 
 -- the roots of the boards below q
 abbrev pub roots_in : List (Option ℕ) → ℕ → ℕ → List CopyRecord
-roots_in owners n q = gathered (row_roots owners n) q
+roots_in owners n q = lists_below (row_roots owners n) q
 
 -- a board p that keeps this row has a ghost of the root c
 abbrev pub ghost_in : List Bool → ℕ → CopyRecord → Bool
-ghost_in keep p c = not (p == c.board) && flag keep c.vertex
+ghost_in keep p c = not (p == c.board) && flag_at keep c.vertex
 
 -- the edge from board p's copy of the vertex to the root c
 abbrev pub edge_record : List (List ℕ) → ℕ → CopyRecord → Edge
@@ -80,13 +80,13 @@ edge_record numbers p c =
     }
 
 -- the same, if board p has a ghost of the root
-abbrev pub edge_at : List (List Bool) → List (List ℕ) → ℕ → CopyRecord → List Edge
-edge_at table numbers p c = only (ghost_in (row table p) p c) (edge_record numbers p c)
+abbrev pub edge_if_ghost : List (List Bool) → List (List ℕ) → ℕ → CopyRecord → List Edge
+edge_if_ghost table numbers p c = only (ghost_in (row table p) p c) (edge_record numbers p c)
 
 -- the edges from board p
 abbrev pub board_edges : List (List Bool) → List (List ℕ) → List Root → ℕ → List Edge
-board_edges table numbers roots p = flat_map (λ r. edge_at table numbers p (root_copy r)) roots
+board_edges table numbers roots p = flat_map (λ r. edge_if_ghost table numbers p (root_copy r)) roots
 
 -- the edges from the boards below p
 abbrev pub edges_in : List (List Bool) → List (List ℕ) → List Root → ℕ → List Edge
-edges_in table numbers roots p = gathered (board_edges table numbers roots) p
+edges_in table numbers roots p = lists_below (board_edges table numbers roots) p

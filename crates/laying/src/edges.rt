@@ -1,7 +1,7 @@
 // Writing the edges of a plan: for each leaf board one pass over the roots.
 ghost use Rattle.std.specs.Prelude.{◌≡◌, ◌<◌, ◌≤◌, ◌++◌, length, drop};
 ghost use Rattle.laying.specs.Filled.{HasRoom, Appends};
-ghost use Rattle.laying.specs.Said.{ghost_at, edge_to, edges_from, all_edges};
+ghost use Rattle.laying.specs.Said.{ghost_at, edge_to_root, edges_from, all_edges};
 
 use crate::filling::Filling;
 use crate::root::Root;
@@ -26,8 +26,8 @@ impl LeafBoard<'_> {
 
     // Appends the edge to a root, if the board has a ghost of it.
     fn write_edge(&self, root: Root, out: &mut Filling<Edge>)
-        requires { HasRoom out.old (edge_to self.now.tables.now self.now.board root) }
-        ensures { Appends out.old out.new (edge_to self.now.tables.now self.now.board root) }
+        requires { HasRoom out.old (edge_to_root self.now.tables.now self.now.board root) }
+        ensures { Appends out.old out.new (edge_to_root self.now.tables.now self.now.board root) }
     {
         let numbers = &self.tables.numbers;
         let v = usize::from(root.vertex);

@@ -4,7 +4,7 @@ ghost use Rattle.std.specs.List.{AllByRecursion};
 ghost use Rattle.scene.specs.Views.{viewed};
 ghost use Rattle.forest.specs.Forest.{any, keeps, owns_cell_on};
 ghost use Rattle.laying.specs.Seen.{cell_of, ReadFrom};
-ghost use Rattle.laying.specs.BoardSets.{has, at, TellsAll};
+ghost use Rattle.laying.specs.BoardSets.{has, board_set_at, TellsAll};
 ghost use Rattle.laying.specs.Rows.{Tells, some};
 ghost use Rattle.laying.specs.Tables.{row};
 
@@ -15,7 +15,7 @@ use scene::view::SceneView;
 fn add(marked: &mut [BoardSet; 1024], v: u16, boards: BoardSet)
     requires { v < 1024 }
     ensures { TellsAll marked.new 1024
-        (λ p k. has (at marked.old k) p || (has boards p && nat_eq v k)) }
+        (λ p k. has (board_set_at marked.old k) p || (has boards p && nat_eq v k)) }
 {
     let v = usize::from(v);
     marked[v] = marked[v].union(boards);
@@ -26,7 +26,8 @@ fn add(marked: &mut [BoardSet; 1024], v: u16, boards: BoardSet)
 fn mark_cell(corners: &[u16; 3], boards: BoardSet, marked: &mut [BoardSet; 1024])
     requires { AllByRecursion (λ v. v < 1024) corners.now }
     ensures { TellsAll marked.new 1024
-        (λ p v. has (at marked.old v) p || (has boards p && any (λ x. nat_eq x v) corners.now)) }
+        (λ p v. has (board_set_at marked.old v) p
+        || (has boards p && any (λ x. nat_eq x v) corners.now)) }
 {
     for v in corners {
         add(marked, *v, boards);
@@ -72,7 +73,7 @@ pub(crate) fn own_vertices(scene: &SceneView, corners: &[[u16; 3]]) -> [BoardSet
 // The boards at the corners of a cell.
 fn at_corners(corners: &[u16; 3], near: &[BoardSet; 1024]) -> BoardSet
     requires { AllByRecursion (λ v. v < 1024) corners.now }
-    ensures { (p : ℕ) → has result p ≡ any (λ v. has (at near.now v) p) corners.now }
+    ensures { (p : ℕ) → has result p ≡ any (λ v. has (board_set_at near.now v) p) corners.now }
 {
     let mut boards = BoardSet::none();
     for v in corners {
@@ -85,7 +86,7 @@ fn at_corners(corners: &[u16; 3], near: &[BoardSet; 1024]) -> BoardSet
 fn spread(corners: &[[u16; 3]], near: &[BoardSet; 1024]) -> [BoardSet; 1024]
     requires { (c : ℕ) → c < length corners.now → AllByRecursion (λ v. v < 1024) (row corners.now c) }
     ensures { TellsAll result 1024
-        (λ p v. some (λ c. any (λ x. has (at near.now x) p) (row corners.now c)
+        (λ p v. some (λ c. any (λ x. has (board_set_at near.now x) p) (row corners.now c)
         && any (λ x. nat_eq x v) (row corners.now c))
         (length corners.now)) }
 {
@@ -113,7 +114,7 @@ pub(crate) fn keepers(
 // Flags the vertices whose sets have board p.
 fn flag_row(sets: &[BoardSet; 1024], p: usize, row: &mut [bool; 1024])
     requires { p < 8 }
-    ensures { Tells row.new 1024 (λ v. has (at sets.now v) p) }
+    ensures { Tells row.new 1024 (λ v. has (board_set_at sets.now v) p) }
 {
     for (v, flag) in row.iter_mut().enumerate() {
         *flag = sets[v].has(p);
@@ -122,7 +123,7 @@ fn flag_row(sets: &[BoardSet; 1024], p: usize, row: &mut [bool; 1024])
 
 // For each board, flags the vertices whose sets have it.
 pub(crate) fn flag_all(sets: &[BoardSet; 1024], rows: &mut [[bool; 1024]; 8])
-    ensures { (p : ℕ) → p < 8 → Tells (row rows.new p) 1024 (λ v. has (at sets.now v) p) }
+    ensures { (p : ℕ) → p < 8 → Tells (row rows.new p) 1024 (λ v. has (board_set_at sets.now v) p) }
 {
     for (p, row) in rows.iter_mut().enumerate() {
         flag_row(sets, p, row);

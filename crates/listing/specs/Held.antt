@@ -3,5 +3,5 @@ use Rattle.std.specs.Prelude.{ℕ, List, take}
 use Rattle.listing.specs.declared.line.Line.{Line}
 
 -- the bytes of the line
-abbrev pub held : Line → List ℕ
-held l = take l.len l.bytes
+abbrev pub line_bytes : Line → List ℕ
+line_bytes l = take l.len l.bytes

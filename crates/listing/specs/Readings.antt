@@ -3,7 +3,7 @@ use Rattle.std.specs.Prelude.{◌≡◌, ◌++◌, codes}
 use Rattle.protocol.specs.declared.tally.Report.TheVariants.{Settled, Awaits}
 use Rattle.listing.specs.Lines.{line_end, plan_line, tally_line, board_line, copy_line, refusal_line}
 
-pub record Readings : Type 0 where
+pub record LineReadings : Type 0 where
   pub plan : plan_line 8 3 1 4096 0 ≡ codes "boards 8 overlap 3 kind 1 copies 4096 edges 0" ++ line_end
   pub tally :
       tally_line (record { turns = 800000; puts = 5600000; lost = 10; accepted = 0 })

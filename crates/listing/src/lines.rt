@@ -1,6 +1,6 @@
 // Each line that a program prints.
 ghost use Rattle.std.specs.Prelude.{◌≡◌};
-ghost use Rattle.listing.specs.Held.{held};
+ghost use Rattle.listing.specs.Held.{line_bytes};
 ghost use Rattle.listing.specs.Lines.{plan_line, tally_line, board_line, copy_line, refusal_line};
 
 use crate::line::Line;
@@ -21,7 +21,8 @@ pub struct PlanNumbers {
 
 // Kept: no `Display`. `write!` tells its bytes only on `Ok`, and nothing tells when that is; a line cannot fail.
 pub fn plan_line(plan: PlanNumbers) -> Line
-    ensures { held result ≡ plan_line plan.boards plan.overlap plan.kind plan.copies plan.edges }
+    ensures { line_bytes result
+        ≡ plan_line plan.boards plan.overlap plan.kind plan.copies plan.edges }
 {
     let mut line = Line::new();
     line.field("boards ", plan.boards);
@@ -34,7 +35,7 @@ pub fn plan_line(plan: PlanNumbers) -> Line
 }
 
 pub fn tally_line(tally: Tally) -> Line
-    ensures { held result ≡ tally_line tally }
+    ensures { line_bytes result ≡ tally_line tally }
 {
     let mut line = Line::new();
     line.field("turns ", tally.turns);
@@ -46,7 +47,7 @@ pub fn tally_line(tally: Tally) -> Line
 }
 
 pub fn board_line(board: usize, report: Report) -> Line
-    ensures { held result ≡ board_line board report }
+    ensures { line_bytes result ≡ board_line board report }
 {
     let mut line = Line::new();
     line.number(board);
@@ -59,7 +60,7 @@ pub fn board_line(board: usize, report: Report) -> Line
 }
 
 pub fn copy_line(copy: CopyRecord, words: Words) -> Line
-    ensures { held result ≡ copy_line copy words }
+    ensures { line_bytes result ≡ copy_line copy words }
 {
     let mut line = Line::new();
     line.number(copy.board);
@@ -72,7 +73,7 @@ pub fn copy_line(copy: CopyRecord, words: Words) -> Line
 }
 
 pub fn refusal_line(number: usize, last: usize) -> Line
-    ensures { held result ≡ refusal_line number last }
+    ensures { line_bytes result ≡ refusal_line number last }
 {
     let mut line = Line::new();
     line.field("refused ", number);

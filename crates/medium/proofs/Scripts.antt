@@ -6,7 +6,7 @@ use Rattle.std.proofs.lemmas.Bool.{cases_eq}
 use Rattle.std.proofs.lemmas.List.Elements.{All-get_or}
 use Rattle.std.proofs.lemmas.List.Sums.{sum_by-append}
 use Rattle.medium.specs.Calls.{Rules, Call, take_call, put_call, Leads, Calls, no_call, one_call, LooksLike, is_put}
-use Rattle.medium.specs.Fates.{entry, entry_after, table}
+use Rattle.medium.specs.Fates.{entry, entry_after, script_table}
 use Rattle.medium.specs.Lanes.{appended}
 use Rattle.medium.specs.Puts.{Scripted}
 use Rattle.medium.specs.Scripts.{below_script, next_of, script_rules, FollowsTheTable}
@@ -16,8 +16,8 @@ use Rattle.medium.proofs.Alike.{alike}
 use Rattle.medium.proofs.Layers.{BothLed, none_made, led_on, led_same, led_equal, both_puts_lead}
 
 -- no other code is in the table
-entry_few : (n : ℕ) → n < length table → entry n ≤ 2
-entry_few n within = All-get_or (λ x. x ≤ 2) table n 0 within (search arith)
+entry_few : (n : ℕ) → n < length script_table → entry n ≤ 2
+entry_few n within = All-get_or (λ x. x ≤ 2) script_table n 0 within (search arith)
 
 module _ {M N : Type 0} (R : Rules M) (S : Rules N) (m : M) (n : N) where
   -- what one code makes of two media that the same calls led to
@@ -74,15 +74,16 @@ count_on cs c = sum_by-append _ cs (c ∷ [])
 
 -- the next number is the number of puts so far, modulo the table's length
 numbers : {M : Type 0} (R : Rules M) (s : Script M) → next_of s ≡ 0 → (cs : List Call) (t : Script M)
-    → Calls (script_rules R) s cs t → next_of t ≡ count_by is_put cs % length table
+    → Calls (script_rules R) s cs t → next_of t ≡ count_by is_put cs % length script_table
 numbers R s first cs t no_call = first
 numbers R s first cs t (one_call bs (take_call from to) r u before (after, (stays, _))) =
-    stays ∙ numbers R s first bs r before ∙ ap (λ n. n % length table) (omega (arith, count_on bs (take_call from to)))
+    stays ∙ numbers R s first bs r before
+    ∙ ap (λ n. n % length script_table) (omega (arith, count_on bs (take_call from to)))
 numbers R s first cs t (one_call bs (put_call from to f) r u before (k, after, (moves, _))) =
     moves
     ∙ ap entry_after (numbers R s first bs r before)
-    ∙ mod-add-mod (count_by is_put bs) (length table) 1
-    ∙ ap (λ n. n % length table) (sym (count_on bs (put_call from to f)))
+    ∙ mod-add-mod (count_by is_put bs) (length script_table) 1
+    ∙ ap (λ n. n % length script_table) (sym (count_on bs (put_call from to f)))
 
 pub follows_the_table : {M : Type 0} (R : Rules M) (s : Script M) → next_of s ≡ 0 → FollowsTheTable R s
 follows_the_table R s first cs t u from to f k calls (_, r) =

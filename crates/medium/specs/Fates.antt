@@ -10,12 +10,12 @@ code Drop = 1
 code Twice = 2
 
 -- put number m follows entry m modulo the table's length
-abbrev pub table : List ℕ
-table = 1 ∷ 0 ∷ 0 ∷ 2 ∷ 0 ∷ 1 ∷ 0 ∷ 0 ∷ 2 ∷ 0 ∷ 0 ∷ 1 ∷ 0 ∷ 0 ∷ 0 ∷ 2 ∷ []
+abbrev pub script_table : List ℕ
+script_table = 1 ∷ 0 ∷ 0 ∷ 2 ∷ 0 ∷ 1 ∷ 0 ∷ 0 ∷ 2 ∷ 0 ∷ 0 ∷ 1 ∷ 0 ∷ 0 ∷ 0 ∷ 2 ∷ []
 
 abbrev pub entry : ℕ → ℕ
-entry n = slice_index table n
+entry n = slice_index script_table n
 
 -- the entry after entry n, the first after the last
 abbrev pub entry_after : ℕ → ℕ
-entry_after n = (n + 1) % length table
+entry_after n = (n + 1) % length script_table

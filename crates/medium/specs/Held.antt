@@ -9,12 +9,12 @@ use Rattle.medium.specs.declared.frame.Frame.{Frame}
 use Rattle.medium.specs.declared.queue.Queue.{Queue}
 
 -- the frames that wait in one lane
-abbrev pub held : ArrayVec Frame → List Frame
-held l = l.items
+abbrev pub frames_in : ArrayVec Frame → List Frame
+frames_in l = l.items
 
 -- a lane with the frame behind the others where there is room, else as it was
-abbrev pub pushed : Bool → Frame → List Frame → List Frame
-pushed room f fs = cond room (fs ++ f ∷ []) fs
+abbrev pub pushed_lane : Bool → Frame → List Frame → List Frame
+pushed_lane room f fs = cond room (fs ++ f ∷ []) fs
 
 -- 64 lists as lanes: the lane from p to q stands at 8 p + q
 abbrev pub lanes_of : List (List Frame) → Lanes
@@ -22,7 +22,7 @@ lanes_of lists p q = cond (is_lane p q) (slice_index_or lists (8 * p + q) []) []
 
 -- the frames that wait in a table of 64 lanes
 abbrev pub table_lanes : List (ArrayVec Frame) → Lanes
-table_lanes ls = lanes_of (map held ls)
+table_lanes ls = lanes_of (map frames_in ls)
 
 -- the frames that wait in a queue
 abbrev pub queue_lanes : Queue → Lanes

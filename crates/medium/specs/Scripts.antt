@@ -1,7 +1,7 @@
 -- What a put and a take make of a script, by the rules of the medium below it.
 use Rattle.std.specs.Prelude.{◌≡◌, ℕ, ◌%◌, List, length, count_by}
 use Rattle.medium.specs.Calls.{Rules, rules_of, Call, Calls, LooksLike, is_put}
-use Rattle.medium.specs.Fates.{entry, entry_after, table}
+use Rattle.medium.specs.Fates.{entry, entry_after, script_table}
 use Rattle.medium.specs.Lanes.{Lanes}
 use Rattle.medium.specs.Puts.{Puts, Scripted, Takes}
 use Rattle.medium.specs.declared.frame.Frame.{Frame}
@@ -37,4 +37,5 @@ script_rules R = rules_of (script_lanes R.lanes) (script_takes R.takes) (script_
 abbrev pub FollowsTheTable : {M : Type 0} → Rules M → Script M → Type 0
 FollowsTheTable {M} R s = (cs : List Call) (t u : Script M) (from to : ℕ) (f : Frame) (k : ℕ)
     → Calls (script_rules R) s cs t → (script_rules R).puts t from to f k u
-    → Scripted R.lanes R.puts (entry (count_by is_put cs % length table)) (below_script t) from to f k (below_script u)
+    → Scripted R.lanes R.puts (entry (count_by is_put cs % length script_table)) (below_script t) from to f k
+    (below_script u)

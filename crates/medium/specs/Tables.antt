@@ -16,20 +16,20 @@ use Rattle.std.proofs.lemmas.List.Elements.{All-head, All-tail}
 use Rattle.arrayvec.specs.ArrayVec.{ArrayVec, array_vec_len}
 use Rattle.medium.specs.declared.frame.Frame.{Frame}
 use Rattle.medium.specs.Lanes.{is_lane, same_lane, empty_lanes}
-use Rattle.medium.specs.Held.{held, lanes_of, pushed, table_lanes}
+use Rattle.medium.specs.Held.{frames_in, lanes_of, pushed_lane, table_lanes}
 use Rattle.medium.specs.Appending.{lanes_agree}
 
 -- what holds of the frames of each lane and of no frames holds at any place
 held_at :
-    (P : List Frame → Type 0) → P [] → (ls : List (ArrayVec Frame)) → All (λ l. P (held l)) ls → (k : ℕ) →
-    P (slice_index_or (map held ls) k [])
+    (P : List Frame → Type 0) → P [] → (ls : List (ArrayVec Frame)) → All (λ l. P (frames_in l)) ls → (k : ℕ) →
+    P (slice_index_or (map frames_in ls) k [])
 held_at P none [] all k = none
-held_at P none (l ∷ ls) all zero = All-head (λ x. P (held x)) l ls all
-held_at P none (l ∷ ls) all (suc k) = held_at P none ls (All-tail (λ x. P (held x)) l ls all) k
+held_at P none (l ∷ ls) all zero = All-head (λ x. P (frames_in x)) l ls all
+held_at P none (l ∷ ls) all (suc k) = held_at P none ls (All-tail (λ x. P (frames_in x)) l ls all) k
 
 pub all_few :
     (ls : List (ArrayVec Frame)) → All (λ l. array_vec_len l ≤ 8) ls → (k : ℕ) →
-    length (slice_index_or (map held ls) k []) ≤ 8
+    length (slice_index_or (map frames_in ls) k []) ≤ 8
 all_few = held_at (λ fs. length fs ≤ 8) (omega arith)
 
 either_none : (b : Bool) (xs : List Frame) → xs ≡ [] → cond b xs [] ≡ []
@@ -37,17 +37,17 @@ either_none true xs e = e
 either_none false xs e = refl
 
 -- where no lane of the table holds a frame, no frame waits
-pub none_waits : (ls : List (ArrayVec Frame)) → All (λ l. held l ≡ []) ls → table_lanes ls ≡ empty_lanes
+pub none_waits : (ls : List (ArrayVec Frame)) → All (λ l. frames_in l ≡ []) ls → table_lanes ls ≡ empty_lanes
 none_waits ls none =
     lanes_agree _ _ (λ p q. either_none (is_lane p q) _ (held_at (λ fs. fs ≡ []) refl ls none (8 * p + q)))
 
 -- lanes that were made empty: no frame waits, and each has room
 pub made_empty :
-    (ls : List (ArrayVec Frame)) (n : ℕ) → AllOfLen (λ l. held l ≡ []) ls n → table_lanes ls ≡ empty_lanes
+    (ls : List (ArrayVec Frame)) (n : ℕ) → AllOfLen (λ l. frames_in l ≡ []) ls n → table_lanes ls ≡ empty_lanes
 made_empty ls n all = none_waits ls (λ k d within. all.at k d (omega (arith, all.long)))
 
 pub made_few :
-    (ls : List (ArrayVec Frame)) (n : ℕ) → AllOfLen (λ l. held l ≡ []) ls n → All (λ l. array_vec_len l ≤ 8) ls
+    (ls : List (ArrayVec Frame)) (n : ℕ) → AllOfLen (λ l. frames_in l ≡ []) ls n → All (λ l. array_vec_len l ≤ 8) ls
 made_few ls n all k d within = omega (arith, ap length (all.at k d (omega (arith, all.long))))
 
 pub lane_boards : (p q : ℕ) → is_lane p q ≡ true → (p < 8) × (q < 8)
@@ -61,12 +61,13 @@ lane_place p q b = omega (arith, (lane_boards p q b).0, (lane_boards p q b).1)
 -- the lane from p to q is the one that stands at 8 p + q
 pub lane_held :
     (ls : List (ArrayVec Frame)) (p q : ℕ) (d : ArrayVec Frame) → length ls ≡ 64 → is_lane p q ≡ true →
-    held (slice_index_or ls (8 * p + q) d) ≡ table_lanes ls p q
+    frames_in (slice_index_or ls (8 * p + q) d) ≡ table_lanes ls p q
 lane_held ls p q d size b =
-    sym (get_or-map held ls (8 * p + q) d [] (omega (arith, lane_place p q b))) ∙ sym (cond-true (is_lane p q) _ _ b)
+    sym (get_or-map frames_in ls (8 * p + q) d [] (omega (arith, lane_place p q b)))
+    ∙ sym (cond-true (is_lane p q) _ _ b)
 
-same_boards : (from to p q : ℕ) → same_lane from to p q ≡ true → (p ≡ from) × (q ≡ to)
-same_boards from to p q s =
+same_lane_boards : (from to p q : ℕ) → same_lane from to p q ≡ true → (p ≡ from) × (q ≡ to)
+same_lane_boards from to p q s =
     let both = and_parts (p == from) (q == to) s in (eqb-true p from both.0, eqb-true q to both.1)
 
 -- 8 p + q tells p and q apart
@@ -95,38 +96,38 @@ other m k p q v differs =
     (cases_Bool (is_lane p q))
 
 -- the lane that was set
-itself :
+lane_itself :
     (m : List (List Frame)) (p q : ℕ) (v : List Frame) → length m ≡ 64 → is_lane p q ≡ true →
     lanes_of (slice_set m (8 * p + q) v) p q ≡ v
-itself m p q v size b =
+lane_itself m p q v size b =
     cond-true (is_lane p q) _ _ b ∙ get_or-set_same m (8 * p + q) v [] (omega (arith, lane_place p q b))
 
 -- one lane of the table goes from xs to F xs; every other lane stays
 pub lane_changed :
     (F : List Frame → List Frame) (ls : List (ArrayVec Frame)) (from to : ℕ) (l : ArrayVec Frame) → length ls ≡ 64 →
-    is_lane from to ≡ true → held l ≡ F (table_lanes ls from to) → (p q : ℕ) →
+    is_lane from to ≡ true → frames_in l ≡ F (table_lanes ls from to) → (p q : ℕ) →
     table_lanes (slice_set ls (8 * from + to) l) p q
     ≡ cond (same_lane from to p q) (F (table_lanes ls p q)) (table_lanes ls p q)
 lane_changed F ls from to l size here new p q =
     let k = 8 * from + to in
-    let m = map held ls in
-    let long : length m ≡ 64 = length-map ls held ∙ size in
-    ap (λ t. lanes_of t p q) (map-set held ls k l)
+    let m = map frames_in ls in
+    let long : length m ≡ 64 = length-map ls frames_in ∙ size in
+    ap (λ t. lanes_of t p q) (map-set frames_in ls k l)
     ∙ ⊎_elim
     (λ s.
-    let is = same_boards from to p q s in
-    ap₂ (lanes_of (slice_set m k (held l))) is.0 is.1
-    ∙ itself m from to (held l) long here
+    let is = same_lane_boards from to p q s in
+    ap₂ (lanes_of (slice_set m k (frames_in l))) is.0 is.1
+    ∙ lane_itself m from to (frames_in l) long here
     ∙ new
     ∙ sym (ap F (ap₂ (lanes_of m) is.0 is.1))
     ∙ sym (cond-true (same_lane from to p q) _ _ s))
     (λ s.
-    other m k p q (held l) (apart from to p q here s)
+    other m k p q (frames_in l) (apart from to p q here s)
     ∙ sym (cond-false (same_lane from to p q) _ _ s))
     (cases_Bool (same_lane from to p q))
 
 -- a push that had room appended one copy, any other none
-pub push_as : (r : Bool) (xs : List Frame) (f : Frame) → pushed r f xs ≡ xs ++ replicate (bool_byte r) f
+pub push_as : (r : Bool) (xs : List Frame) (f : Frame) → pushed_lane r f xs ≡ xs ++ replicate (bool_byte r) f
 push_as true xs f = refl
 push_as false xs f = sym (append-nil xs)
 
@@ -141,14 +142,15 @@ had_room (Err e) n room = grind (arith, nat_tests)
 
 -- a push that was tried had room exactly where it went well
 pub tried :
-    {E : Type 0} (r : Result ⊤ E) (was new : ArrayVec Frame) (f : Frame) → OnOk r (held new ≡ held was ++ f ∷ []) →
-    OnErr r (new ≡ was) → held new ≡ pushed (is_ok r) f (held was)
+    {E : Type 0} (r : Result ⊤ E) (was new : ArrayVec Frame) (f : Frame) →
+    OnOk r (frames_in new ≡ frames_in was ++ f ∷ []) →
+    OnErr r (new ≡ was) → frames_in new ≡ pushed_lane (is_ok r) f (frames_in was)
 tried (Ok u) was new f more same = more
-tried (Err e) was new f more same = ap held same
+tried (Err e) was new f more same = ap frames_in same
 
 -- a removal at the front took the oldest frame, if one waited
-pub taken :
+pub took_oldest :
     (r : Option Frame) (was new : ArrayVec Frame) → (IsSome r ↔ (0 < array_vec_len was)) →
-    OnSome r (held new ≡ remove (held was) 0) → IfNone r (new ≡ was) → held new ≡ drop 1 (held was)
-taken (Some f) was new some rest same = rest
-taken None was new some rest same = grind (arith, common_steps)
+    OnSome r (frames_in new ≡ remove (frames_in was) 0) → IfNone r (new ≡ was) → frames_in new ≡ drop 1 (frames_in was)
+took_oldest (Some f) was new some rest same = rest
+took_oldest None was new some rest same = grind (arith, common_steps)

@@ -72,7 +72,7 @@ impl Medium for Queue {
 
     ghost outside = { λ m p q none. cond-false (is_lane p q) _ _ none };
 
-    #[tactic(auto, using(crate::specs::Slots::pushed, crate::specs::Slots::counted, crate::specs::Slots::kept))]
+    #[tactic(auto, using(crate::specs::Slots::pushed, crate::specs::Slots::push_count, crate::specs::Slots::unpushed))]
     fn put(&mut self, from: usize, to: usize, frame: Frame) -> usize
         ensures count { Allowed from to result }
         ensures after { queue_lanes self.new ≡ appended (queue_lanes self.old) from to frame result }

@@ -1,6 +1,6 @@
 // A medium over any medium that refuses a put to a lane where its limit of frames waits.
 ghost use Rattle.std.specs.Prelude.{◌≡◌, [], ◌∷◌, Ok, Err};
-ghost use Rattle.element.specs.Numbers.{first_of, last_of};
+ghost use Rattle.element.specs.Numbers.{first_number, last_number};
 ghost use Rattle.medium.specs.Lanes.{first, shortened};
 ghost use Rattle.medium.specs.Faults.{IsLimit, quota_numbers};
 
@@ -17,14 +17,14 @@ pub enum QuotaFault {
 impl QuotaFault {
     // The refusal's number.
     pub fn number(&self) -> usize
-        ensures { result ≡ first_of (quota_numbers self.now) }
+        ensures { result ≡ first_number (quota_numbers self.now) }
     {
         16
     }
 
     // The last of its values.
     pub fn last(&self) -> usize
-        ensures { result ≡ last_of (quota_numbers self.now) }
+        ensures { result ≡ last_number (quota_numbers self.now) }
     {
         match *self {
             QuotaFault::Limit { given } => given,

@@ -2,7 +2,7 @@
 ghost use Rattle.std.specs.Prelude.{◌≡◌, ◌<◌, length};
 ghost use Rattle.medium.specs.Lanes.{Allowed, appended, first, shortened};
 ghost use Rattle.medium.specs.Puts.{Doubled};
-ghost use Rattle.medium.specs.Fates.{code, entry, table};
+ghost use Rattle.medium.specs.Fates.{code, entry, script_table};
 
 use crate::frame::Frame;
 use crate::medium::Medium;
@@ -37,7 +37,7 @@ const TABLE: [Fate; 16] = [
 
 // The table's entry n.
 fn fate_of(n: usize) -> Fate
-    requires { n < length table }
+    requires { n < length script_table }
     ensures { code result ≡ entry n }
 {
     TABLE[n]
@@ -49,7 +49,7 @@ pub struct Script<M> {
     // The number of the next put, modulo the table's length.
     // Kept: counted, since an iterator round the table is no plainer: the specs go by the entry's number.
     next: usize,
-    ghost ok: { next < length table },
+    ghost ok: { next < length script_table },
 }
 
 impl<M: Medium> Script<M> {

@@ -6,11 +6,11 @@ use Rattle.std.specs.Fn.{Called}
 use Rattle.std.specs.Array.{IsFromFnResultFrom}
 use Rattle.std.proofs.lemmas.Bool.{cases_eq}
 use Rattle.plan.specs.declared.records.Edge.{Edge}
-use Rattle.plan.specs.Starts.{link_of, edges_on, edges_before}
+use Rattle.plan.specs.Starts.{link_number, edges_on, edges_before}
 use Rattle.plan.proofs.Orders.{count_more}
 
 pub before_more : (edges : List Edge) (x : ℕ) → edges_before edges (x + 1) ≡ edges_before edges x + edges_on edges x
-before_more edges x = ap (edges_before edges) (add-one x) ∙ count_more link_of x edges
+before_more edges x = ap (edges_before edges) (add-one x) ∙ count_more link_number x edges
 
 -- an array made by a call at each index, where each call gives v of its index and changes nothing
 pub made_each : {F : Type 0} (g : Mut F (ℕ × Unit {0}) ℕ) (v : ℕ → ℕ) (f : F)

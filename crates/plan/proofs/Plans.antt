@@ -12,7 +12,7 @@ use Rattle.plan.specs.declared.records.Edge.{Edge}
 use Rattle.plan.specs.Links.{no_copy, no_edge, joins, edges_between}
 use Rattle.plan.specs.Sound.{each, copy_before, edge_before, copy_fits, edge_fits}
 use Rattle.plan.specs.Sound.{boards_fit, sound_copies, sound_edges, sound_plan}
-use Rattle.plan.specs.Starts.{link_of, edges_on, edges_before, Starts, copies_on, copies_before}
+use Rattle.plan.specs.Starts.{link_number, edges_on, edges_before, Starts, copies_on, copies_before}
 use Rattle.plan.proofs.Counting.{before_more}
 use Rattle.plan.proofs.Orders.{pairs_from_rising, pairs_weaker, non_decreasing}
 use Rattle.plan.proofs.Orders.{all_from_each, few_keys, same_kept, part_at, part_within}
@@ -44,7 +44,7 @@ abbrev copy_key : CopyRecord → ℕ
 copy_key c = 1024 * c.board + c.vertex
 
 abbrev edge_key : Edge → ℕ
-edge_key e = 1024 * link_of e + e.vertex
+edge_key e = 1024 * link_number e + e.vertex
 
 copy_key_rises : (c d : CopyRecord) → c.vertex < 1024 → copy_before c d ≡ true → copy_key c < copy_key d
 copy_key_rises c d b h = grind (arith, nat_tests)
@@ -52,7 +52,7 @@ copy_key_rises c d b h = grind (arith, nat_tests)
 edge_key_rises : (e f : Edge) → e.vertex < 1024 → e.to < 8 → edge_before e f ≡ true → edge_key e < edge_key f
 edge_key_rises e f b t h = grind (arith, nat_tests)
 
-same_link : (e : Edge) (p q : ℕ) → e.to < 8 → q < 8 → joins p q e ≡ eqb (link_of e) (8 * p + q)
+same_link : (e : Edge) (p q : ℕ) → e.to < 8 → q < 8 → joins p q e ≡ eqb (link_number e) (8 * p + q)
 same_link e p q t b = grind (arith, nat_tests)
 
 -- one kept edge has its boards and its vertex on both copies
@@ -162,11 +162,11 @@ module _
       few_keys edge_key 65536 edges edges_ordered
       (λ k d l. let h = edges_low k d l in omega (arith, h.0, h.1, h.2))
 
-  pub links_rise : IsNonDecreasingBy link_of edges
+  pub links_rise : IsNonDecreasingBy link_number edges
   links_rise =
-      non_decreasing link_of edges
+      non_decreasing link_number edges
       (pairs_weaker EdgeLow (λ e f. edge_key e < edge_key f)
-      (λ e f. link_of e ≤ link_of f) (λ e f p q h. omega (arith, q.2)) edges edges_low edges_ordered)
+      (λ e f. link_number e ≤ link_number f) (λ e f p q h. omega (arith, q.2)) edges edges_low edges_ordered)
 
   -- ---- the edges between two boards
   module _ (p q : ℕ) where
@@ -208,7 +208,7 @@ module _
     between_past_to l = between_none (λ e b. omega (arith, b.to_below))
 
     -- they are the edges of a link
-    between_is : q < 8 → edges_between edges p q ≡ filter (λ e. eqb (link_of e) (8 * p + q)) edges
+    between_is : q < 8 → edges_between edges p q ≡ filter (λ e. eqb (link_number e) (8 * p + q)) edges
     between_is l =
         same_kept (joins p q) _ edges (λ k d b. same_link (get_or edges k d) p q (edges_low k d b).1 l)
 
@@ -222,7 +222,7 @@ module _
 
     pub link_bounds : (get_or starts x 0 ≤ get_or starts (x + 1) 0) × (get_or starts (x + 1) 0 ≤ length edges)
     link_bounds =
-        let all = part_within link_of x edges links_rise in
+        let all = part_within link_number x edges links_rise in
         (omega (arith, start, next), omega (arith, all, next))
 
     pub link_part : (p q : ℕ) → q < 8 → x ≡ 8 * p + q
@@ -231,6 +231,6 @@ module _
         let size : get_or starts (x + 1) 0 - get_or starts x 0 ≡ edges_on edges x = omega (arith, start, next) in
         ap (λ n. take n (drop (get_or starts x 0) edges)) size
         ∙ ap (λ n. take (edges_on edges x) (drop n edges)) start
-        ∙ part_at link_of x edges links_rise
-        ∙ ap (λ y. filter (λ f. eqb (link_of f) y) edges) e
+        ∙ part_at link_number x edges links_rise
+        ∙ ap (λ y. filter (λ f. eqb (link_number f) y) edges) e
         ∙ sym (between_is p q l)

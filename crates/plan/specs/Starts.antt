@@ -4,16 +4,16 @@ use Rattle.plan.specs.declared.records.CopyRecord.{CopyRecord}
 use Rattle.plan.specs.declared.records.Edge.{Edge}
 
 -- links are numbered by leaf board, then root board
-abbrev pub link_of : Edge → ℕ
-link_of e = 8 * e.from + e.to
+abbrev pub link_number : Edge → ℕ
+link_number e = 8 * e.from + e.to
 
 -- how many edges are of links whose number is below x
 abbrev pub edges_before : List Edge → ℕ → ℕ
-edges_before edges x = length (filter (λ e. nat_lt (link_of e) x) edges)
+edges_before edges x = length (filter (λ e. nat_lt (link_number e) x) edges)
 
 -- how many edges are of link x
 abbrev pub edges_on : List Edge → ℕ → ℕ
-edges_on edges x = length (filter (λ e. nat_eq (link_of e) x) edges)
+edges_on edges x = length (filter (λ e. nat_eq (link_number e) x) edges)
 
 -- the table has, for each link, how many edges come before it; at 64, past the last link, it has all
 abbrev pub Starts : List ℕ → List Edge → Type 0

@@ -1,6 +1,6 @@
 // Why records make no plan.
 ghost use Rattle.std.specs.Prelude.{◌≡◌};
-ghost use Rattle.element.specs.Numbers.{first_of, last_of};
+ghost use Rattle.element.specs.Numbers.{first_number, last_number};
 ghost use Rattle.plan.specs.Faults.{plan_numbers};
 
 #[derive(Clone, Copy, PartialEq, Eq)]
@@ -18,7 +18,7 @@ impl PlanFault {
 
     // The refusal's number.
     pub fn number(&self) -> u8
-        ensures { result ≡ first_of (plan_numbers self.now) }
+        ensures { result ≡ first_number (plan_numbers self.now) }
     {
         match *self {
             PlanFault::Boards { .. } => 13,
@@ -28,7 +28,7 @@ impl PlanFault {
 
     // The last of its values.
     pub fn last(&self) -> usize
-        ensures { result ≡ last_of (plan_numbers self.now) }
+        ensures { result ≡ last_number (plan_numbers self.now) }
     {
         match *self {
             PlanFault::Boards { given } => given,

@@ -1,6 +1,6 @@
 // The records of a plan.
 ghost use Rattle.std.specs.Prelude.{◌≡◌, nat_lt};
-ghost use Rattle.plan.specs.Starts.{link_of};
+ghost use Rattle.plan.specs.Starts.{link_number};
 
 // Board `board` keeps a copy of vertex `vertex`. Copies stand by board, then vertex.
 #[derive(Clone, Copy, PartialEq, Eq, PartialOrd, Ord)]
@@ -31,7 +31,7 @@ impl CopyRecord {
 impl Edge {
     // The number of its link.
     pub(crate) fn link(&self) -> usize
-        ensures { result ≡ link_of self.now }
+        ensures { result ≡ link_number self.now }
     {
         8 * usize::from(self.from) + usize::from(self.to)
     }

@@ -7,7 +7,7 @@ use Rattle.std.proofs.lemmas.Bool.Decides.{nat_tests}
 use Rattle.medium.specs.declared.frame.Frame.{Frame}
 use Rattle.medium.specs.declared.frame.Item.{Item}
 use Rattle.protocol.specs.Frames.{odd, present, has_bit, brings, tells_of, some_item}
-use Rattle.protocol.proofs.Rows.{Any}
+use Rattle.protocol.proofs.Rows.{SomeFrame}
 
 pub odd_suc : (n : ℕ) → odd (suc n) ≡ not (odd n)
 odd_suc n = grind (arith, nat_tests)
@@ -59,7 +59,7 @@ pub tells_next : (n i : ℕ) (f : Frame) → i < n → f.reply ≡ odd (suc i) �
 tells_next n i f l h = rw (lt-ltb i n l, h, odd_suc i) (not_beq_not (odd i))
 
 -- a lane with a frame that has an item
-pub some_item_from : (fs : List Frame) → Any (λ f. present f.item ≡ true) fs → some_item fs ≡ true
+pub some_item_from : (fs : List Frame) → SomeFrame (λ f. present f.item ≡ true) fs → some_item fs ≡ true
 some_item_from [] s = absurd s
 some_item_from (f ∷ fs) s = elim s [
   | inl h ↦ or_left (present f.item) _ h

@@ -6,7 +6,7 @@ use Rattle.plan.specs.Links.{items}
 use Rattle.protocol.specs.Frames.{brings}
 use Rattle.protocol.specs.Turns.{State}
 use Rattle.protocol.proofs.Plan.{Plan}
-use Rattle.protocol.proofs.Rows.{Any}
+use Rattle.protocol.proofs.Rows.{SomeFrame}
 use Rattle.protocol.proofs.Bits.{brings_it}
 use Rattle.protocol.proofs.Link.{link_brings}
 use Rattle.protocol.proofs.Gathering.{May}
@@ -25,7 +25,7 @@ module _ {M : Type 0} {A : Algebra M} (P : Plan A) (p q k : ℕ) where
 
   -- and is accepted, or under way
   abbrev pub Going : State M → Type 0
-  Going s = Ready s × ((k < s.j p q) ⊎ Any (λ f. brings (items P.shape p q) k f ≡ true) (s.lane p q))
+  Going s = Ready s × ((k < s.j p q) ⊎ SomeFrame (λ f. brings (items P.shape p q) k f ≡ true) (s.lane p q))
 
   pub step_past : (t : ℕ) (s u : State M) → Step P t s u 0 → k < s.j p q → k < u.j p q
   step_past t s u st l = omega (arith, step_j P p q t s u 0 st)

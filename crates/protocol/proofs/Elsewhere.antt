@@ -13,7 +13,7 @@ use Rattle.plan.specs.declared.records.CopyRecord.{CopyRecord}
 use Rattle.plan.specs.declared.records.Edge.{Edge}
 use Rattle.plan.proofs.Plans.{between_at}
 use Rattle.protocol.specs.Frames.{brings, words_of}
-use Rattle.protocol.specs.Turns.{Turned, accept, takes, takes_all}
+use Rattle.protocol.specs.Turns.{Turned, accept, copies_after, copies_after_all}
 use Rattle.protocol.specs.Runs.{Moment, seen}
 use Rattle.protocol.proofs.Bits.{brings_below}
 
@@ -28,25 +28,25 @@ module _ {M : Type 0} (A : Algebra M) (S : Shape) (p c : ℕ)
         rw (le-ltb m (S.up q p) a, ne_eqb c (S.leaf p q m₀) (no_leaf q m₀ (omega arith)))
   ]
 
-  takes_else : (q j : ℕ) (val : ℕ → M) (fs : List Frame) → takes A S p q j val fs c ≡ val c
-  takes_else q j val [] = refl
-  takes_else q j val (f ∷ fs) = elim (cases_Bool (brings (items S q p) j f)) [
-    | inl e ↦ rw e (takes_else q (suc j) _ fs
+  copies_after_else : (q j : ℕ) (val : ℕ → M) (fs : List Frame) → copies_after A S p q j val fs c ≡ val c
+  copies_after_else q j val [] = refl
+  copies_after_else q j val (f ∷ fs) = elim (cases_Bool (brings (items S q p) j f)) [
+    | inl e ↦ rw e (copies_after_else q (suc j) _ fs
         ∙ accept_else q j (words_of f.item) val (brings_below (items S q p) j f e))
-    | inr e ↦ rw e (takes_else q j val fs)
+    | inr e ↦ rw e (copies_after_else q j val fs)
   ]
 
   -- a copy that no edge of board p names on p's side is not written
-  pub not_written : (k : ℕ) (j : ℕ → ℕ → ℕ) (lane : Lanes) (val : ℕ → M) → takes_all A S p k j lane val c ≡ val c
+  pub not_written : (k : ℕ) (j : ℕ → ℕ → ℕ) (lane : Lanes) (val : ℕ → M) → copies_after_all A S p k j lane val c ≡ val c
   not_written zero j lane val = refl
   not_written (suc k) j lane val = elim (cases_eq k p) [
     | inl e ↦ rw (eq-eqb k p e) (not_written k j lane val)
-    | inr n ↦ rw (ne_eqb k p n) (takes_else k (j k p) _ (lane k p) ∙ not_written k j lane val)
+    | inr n ↦ rw (ne_eqb k p n) (copies_after_else k (j k p) _ (lane k p) ∙ not_written k j lane val)
   ]
 
 -- where no frame waits for p, nothing is written
 nothing_taken : {M : Type 0} (A : Algebra M) (S : Shape) (p k : ℕ) (j : ℕ → ℕ → ℕ) (lane : Lanes) (val : ℕ → M)
-    → ((q : ℕ) → q < k → q ≢ p → lane q p ≡ []) → takes_all A S p k j lane val ≡ val
+    → ((q : ℕ) → q < k → q ≢ p → lane q p ≡ []) → copies_after_all A S p k j lane val ≡ val
 nothing_taken A S p zero j lane val none = refl
 nothing_taken A S p (suc k) j lane val none =
     let before = nothing_taken A S p k j lane val (λ q l d. none q (omega arith) d) in

@@ -5,28 +5,28 @@ use Rattle.std.proofs.lemmas.Bool.{cases_eq, eq-eqb, ne_eqb, le-ltb, le-leb, leb
 use Rattle.std.proofs.lemmas.Bool.{and_parts, and_from, and_cases, or_cases, or_parts, or_left, or_right, false≢true}
 use Rattle.element.specs.Algebra.{Algebra, Lawful}
 use Rattle.element.proofs.Joins.{join_below_same}
-use Rattle.protocol.specs.Turns.{others, sum_others, gathered}
+use Rattle.protocol.specs.Turns.{all_others, sum_others, has_gathered}
 use Rattle.protocol.proofs.Plan.{Plan}
 use Rattle.protocol.proofs.Copies.{Copies, share}
 
-pub others_each : (p k : ℕ) (t : ℕ → Bool) → others p k t ≡ true → (q : ℕ) → q < k → q ≢ p → t q ≡ true
-others_each p zero t h q l d = absurd (omega arith)
-others_each p (suc k) t h q l d =
-    let (a, b) = and_parts (others p k t) _ h in
+pub all_others_each : (p k : ℕ) (t : ℕ → Bool) → all_others p k t ≡ true → (q : ℕ) → q < k → q ≢ p → t q ≡ true
+all_others_each p zero t h q l d = absurd (omega arith)
+all_others_each p (suc k) t h q l d =
+    let (a, b) = and_parts (all_others p k t) _ h in
     elim (cases_eq q k) [
       | inl e ↦ elim (or_cases (eqb k p) (t k) b) [ inl x ↦ absurd (d (e ∙ eqb-true k p x)) | inr x ↦ rw e x ]
-      | inr n ↦ others_each p k t a q (omega arith) d
+      | inr n ↦ all_others_each p k t a q (omega arith) d
     ]
 
-pub others_from : (p k : ℕ) (t : ℕ → Bool) → ((q : ℕ) → q < k → q ≢ p → t q ≡ true) → others p k t ≡ true
-others_from p zero t h = refl
-others_from p (suc k) t h = and_from _ _ (others_from p k t (λ q l d. h q (omega arith) d))
+pub all_others_from : (p k : ℕ) (t : ℕ → Bool) → ((q : ℕ) → q < k → q ≢ p → t q ≡ true) → all_others p k t ≡ true
+all_others_from p zero t h = refl
+all_others_from p (suc k) t h = and_from _ _ (all_others_from p k t (λ q l d. h q (omega arith) d))
     (elim (cases_eq k p) [ inl e ↦ or_left _ _ (eq-eqb k p e) | inr d ↦ or_right _ _ (h k (omega arith) d) ])
 
-pub others_fail : (p k : ℕ) (t : ℕ → Bool) → others p k t ≡ false → (q : ℕ) × (q < k) × (q ≢ p) × (t q ≡ false)
-others_fail p zero t h = absurd (false≢true (sym h))
-others_fail p (suc k) t h = elim (and_cases (others p k t) _ h) [
-  | inl x ↦ let (q, l, d, e) = others_fail p k t x in (q, omega arith, d, e)
+pub all_others_fail : (p k : ℕ) (t : ℕ → Bool) → all_others p k t ≡ false → (q : ℕ) × (q < k) × (q ≢ p) × (t q ≡ false)
+all_others_fail p zero t h = absurd (false≢true (sym h))
+all_others_fail p (suc k) t h = elim (and_cases (all_others p k t) _ h) [
+  | inl x ↦ let (q, l, d, e) = all_others_fail p k t x in (q, omega arith, d, e)
   | inr x ↦ let (a, b) = or_parts (eqb k p) (t k) x in (k, omega arith, (λ e. eqb-false k p a e), b)
 ]
 
@@ -47,16 +47,16 @@ module _ {M : Type 0} {A : Algebra M} (P : Plan A) where
   abbrev pub May : (ℕ → ℕ → ℕ) → ℕ → ℕ → ℕ → Type 0
   May j p q k = (k < P.shape.up p q) ⊎ Gathered j p
 
-  pub gathered_is : (j : ℕ → ℕ → ℕ) (p : ℕ) → gathered A P.shape j p ≡ true → Gathered j p
-  gathered_is j p h q l d = leb-true _ _ (others_each p P.shape.boards _ h q l d)
+  pub gathered_is : (j : ℕ → ℕ → ℕ) (p : ℕ) → has_gathered A P.shape j p ≡ true → Gathered j p
+  gathered_is j p h q l d = leb-true _ _ (all_others_each p P.shape.boards _ h q l d)
 
-  pub is_gathered : (j : ℕ → ℕ → ℕ) (p : ℕ) → Gathered j p → gathered A P.shape j p ≡ true
-  is_gathered j p h = others_from p P.shape.boards _ (λ q l d. le-leb _ _ (h q l d))
+  pub is_gathered : (j : ℕ → ℕ → ℕ) (p : ℕ) → Gathered j p → has_gathered A P.shape j p ≡ true
+  is_gathered j p h = all_others_from p P.shape.boards _ (λ q l d. le-leb _ _ (h q l d))
 
-  pub not_gathered : (j : ℕ → ℕ → ℕ) (p : ℕ) → gathered A P.shape j p ≡ false
+  pub not_gathered : (j : ℕ → ℕ → ℕ) (p : ℕ) → has_gathered A P.shape j p ≡ false
       → (q : ℕ) × (q < P.shape.boards) × (q ≢ p) × (j q p < P.shape.up q p)
   not_gathered j p h =
-      let (q, l, d, e) = others_fail p P.shape.boards _ h in
+      let (q, l, d, e) = all_others_fail p P.shape.boards _ h in
       (q, l, d, leb-false _ _ e)
 
 module _ {M : Type 0} {A : Algebra M} (law : Lawful A) (P : Plan A) where

@@ -13,11 +13,11 @@ use Rattle.protocol.proofs.Gathering.{May}
 
 module _ {M : Type 0} {A : Algebra M} (P : Plan A) where
   -- the words are those of item k from p to q
-  abbrev pub Holds : ℕ → ℕ → ℕ → Words → Type 0
-  Holds p q k w = A.unpack w ≡ content P p q k
+  abbrev pub IsItem : ℕ → ℕ → ℕ → Words → Type 0
+  IsItem p q k w = A.unpack w ≡ content P p q k
 
   abbrev pub LinkOf : State M → ℕ → ℕ → Type 0
-  LinkOf s p q = LinkInv (items P.shape p q) (Holds p q) (May P s.j p q)
+  LinkOf s p q = LinkInv (items P.shape p q) (IsItem p q) (May P s.j p q)
       (s.i p q) (s.j p q) (s.lane p q) (s.lane q p)
 
   pub record Inv (s : State M) : Type 0 where
@@ -50,6 +50,6 @@ module _ {M : Type 0} {A : Algebra M} (law : Lawful A) (P : Plan A) (s : State M
   pub fresh_keeps : Inv P s
   fresh_keeps = record {
     links = λ a b la lb ab. rw (f.i_zero a b, f.j_zero a b, f.empty a b, f.empty b a)
-        (link_fresh (items P.shape a b) (Holds P a b) (May P s.j a b));
+        (link_fresh (items P.shape a b) (IsItem P a b) (May P s.j a b));
     copies = λ a l. fresh_copies a;
   }

@@ -6,13 +6,13 @@ use Rattle.std.proofs.lemmas.Bool.{cases_eq, eq-eqb, ne_eqb, cases_lt, cases_Boo
 use Rattle.element.specs.Algebra.{Algebra, Lawful}
 use Rattle.plan.specs.Links.{Shape, items}
 use Rattle.protocol.specs.Frames.{words_of}
-use Rattle.protocol.specs.Turns.{State, Turned, value, accept, takes_all, wants, frame}
+use Rattle.protocol.specs.Turns.{State, Turned, link_value, accept, copies_after_all, wants, put_frame}
 use Rattle.protocol.proofs.Plan.{Plan}
 use Rattle.protocol.proofs.Link.{Carries, sender, receiver, receives, onlooker}
 use Rattle.protocol.proofs.Copies.{Copies, content, accept_keeps, ltb_skip}
 use Rattle.protocol.proofs.Gathering.{May, root_total}
-use Rattle.protocol.proofs.Invariant.{Holds, LinkOf, Inv}
-use Rattle.protocol.proofs.Turning.{wants_says, takes_all_else, may_lasts}
+use Rattle.protocol.proofs.Invariant.{IsItem, LinkOf, Inv}
+use Rattle.protocol.proofs.Turning.{wants_says, copies_after_all_else, may_lasts}
 
 copies_at : {M : Type 0} {A : Algebra M} (P : Plan A) (p : ℕ) (val : ℕ → M) (j j' : ℕ → ℕ) → ((q : ℕ) → j q ≡ j' q)
     → Copies P p j val → Copies P p j' val
@@ -58,7 +58,7 @@ module _ {M : Type 0} {A : Algebra M} (law : Lawful A) (P : Plan A) (s u : State
 
   module _ (v : Inv P s) where
     abbrev taken_below : ℕ → ℕ → M
-    taken_below k = takes_all A S p k s.j s.lane s.val
+    taken_below k = copies_after_all A S p k s.j s.lane s.val
 
     mid_copies : (k : ℕ) → k ≤ S.boards → Copies P p (mid k) (taken_below k)
     mid_copies zero l = copies_at P p s.val (λ q. s.j q p) (mid 0) mid_start (v.copies p pb)
@@ -92,7 +92,7 @@ module _ {M : Type 0} {A : Algebra M} (law : Lawful A) (P : Plan A) (s u : State
         let same_j : (q : ℕ) → s.j q a ≡ u.j q a = λ q. sym (t.j_rest q a (inl d)) in
         let old : Copies P a (λ q. u.j q a) s.val = copies_at P a s.val _ _ same_j (v.copies a l) in
         let same : (c : ℕ) → P.board c ≡ a → u.val c ≡ s.val c = λ c b.
-        rw t.val_is (takes_all_else P s u p S.boards c (λ e. d (sym b ∙ e))) in
+        rw t.val_is (copies_after_all_else P s u p S.boards c (λ e. d (sym b ∙ e))) in
         record {
           leaves = λ q m k. same _ (P.leaf_board a q m k) ∙ old.leaves q m k;
           roots = λ c is on. same c on ∙ old.roots c is on;
@@ -117,7 +117,7 @@ module _ {M : Type 0} {A : Algebra M} (law : Lawful A) (P : Plan A) (s u : State
 
     -- an item that is sent anew says what it should
     says : (b : ℕ) → b < S.boards → b ≢ p → u.i p b ≡ u.j p b → u.i p b < items S p b
-        → May P u.j p b (u.i p b) → value A S u.val p b (u.i p b) ≡ content P p b (u.i p b)
+        → May P u.j p b (u.i p b) → link_value A S u.val p b (u.i p b) ≡ content P p b (u.i p b)
     says b l d e n m = elim (cases_lt (u.i p b) (S.up p b)) [
       | inl x ↦
           let early = le-ltb (S.up b p + u.i p b) (u.j b p) (not_replaced b l d e x) in
@@ -134,8 +134,8 @@ module _ {M : Type 0} {A : Algebra M} (law : Lawful A) (P : Plan A) (s u : State
 
     -- what p puts to b
     frame_carries : (b : ℕ) → b < S.boards → b ≢ p
-        → Carries (λ w. u.i p b ≡ s.j p b → Holds P p b (s.j p b) w) (May P u.j p b (u.i p b)) (u.i p b)
-        (frame A S s u p b).item
+        → Carries (λ w. u.i p b ≡ s.j p b → IsItem P p b (s.j p b) w) (May P u.j p b (u.i p b)) (u.i p b)
+        (put_frame A S s u p b).item
     frame_carries b l d =
         let ej : u.j p b ≡ s.j p b = t.j_rest p b (inl d) in
         elim (cases_Bool (wants A S s u p b)) [
@@ -149,7 +149,7 @@ module _ {M : Type 0} {A : Algebra M} (law : Lawful A) (P : Plan A) (s u : State
     out_link : (b : ℕ) → b < S.boards → b ≢ p → LinkOf P u p b
     out_link b l d = rw (t.j_rest p b (inl d), t.sent b l d, t.taken b l d)
         (sender _ _ _ (May P u.j p b) (may_lasts P s u p t p b) _ _ _ _ (v.links p b pb l (λ e. d (sym e)))
-        (u.i p b) _ (frame A S s u p b) (t.i_own b l d) (frame_carries b l d))
+        (u.i p b) _ (put_frame A S s u p b) (t.i_own b l d) (frame_carries b l d))
 
     other_link : (a b : ℕ) → a < S.boards → b < S.boards → a ≢ b → a ≢ p → b ≢ p → LinkOf P u a b
     other_link a b la lb ab da db =

@@ -17,12 +17,12 @@ use Rattle.forest.proofs.Members.{among_at}
 use Rattle.forest.proofs.Filters.{counting_next}
 use Rattle.forest.proofs.Overlap.{kept_is_owned}
 use Rattle.forest.proofs.Copies.{numbered, copy_board_below, copy_vertex_below, copy_kept}
-use Rattle.forest.proofs.Edges.{LaidEdge, leaf_copy, leaf_below, root_copy, root_below, edge_of_leaf}
+use Rattle.forest.proofs.Edges.{LaidEdge, leaf_is_copy, leaf_below, root_is_copy, root_below, edge_of_leaf}
 use Rattle.forest.proofs.Edges.{edge_laid, ghost_between, between_is, between_self, between_laid}
 use Rattle.forest.proofs.Edges.{between_from, between_to, between_once, edge_between, edges_counted}
 use Rattle.forest.proofs.Totals as totals
 use Rattle.protocol.specs.Runs.{laid}
-use Rattle.protocol.specs.Promise.{board_of, vertex_of}
+use Rattle.protocol.specs.Promise.{copy_board, copy_vertex}
 use Rattle.protocol.proofs.Plan.{Plan, part}
 use Rattle.plan.specs.Sums.{sum_below}
 use Rattle.protocol.proofs.Pairs.{pairs, pairs_same}
@@ -41,26 +41,26 @@ module _ {M : Type 0} (A : Algebra M) (L : Lawful A) (s : Scene) (ok : Sound s) 
 
   -- the copy is that of its vertex's owner
   abbrev pub is_root : ℕ → Bool
-  is_root c = valid c && eqb (owner s (vertex_of A s c)) (board_of A s c)
+  is_root c = valid c && eqb (owner s (copy_vertex A s c)) (copy_board A s c)
 
-  abbrev pub own : ℕ → M
-  own c = own_sum A s (board_of A s c) (vertex_of A s c)
+  abbrev pub own_of : ℕ → M
+  own_of c = own_sum A s (copy_board A s c) (copy_vertex A s c)
 
   module _ (p q m : ℕ) (l : m < length (line p q)) where
     is_laid : LaidEdge s (edge p q m)
     is_laid = between_laid s p q m l
 
-    pub leaf_board : board_of A s (edge p q m).leaf ≡ p
-    leaf_board = ap (λ r. r.board) (leaf_copy s (edge p q m) is_laid) ∙ between_from s p q m l
+    pub leaf_board : copy_board A s (edge p q m).leaf ≡ p
+    leaf_board = ap (λ r. r.board) (leaf_is_copy s (edge p q m) is_laid) ∙ between_from s p q m l
 
-    leaf_vertex : vertex_of A s (edge p q m).leaf ≡ (edge p q m).vertex
-    leaf_vertex = ap (λ r. r.vertex) (leaf_copy s (edge p q m) is_laid)
+    leaf_vertex : copy_vertex A s (edge p q m).leaf ≡ (edge p q m).vertex
+    leaf_vertex = ap (λ r. r.vertex) (leaf_is_copy s (edge p q m) is_laid)
 
-    pub root_board : board_of A s (edge p q m).root ≡ q
-    root_board = ap (λ r. r.board) (root_copy s (edge p q m) is_laid) ∙ between_to s p q m l
+    pub root_board : copy_board A s (edge p q m).root ≡ q
+    root_board = ap (λ r. r.board) (root_is_copy s (edge p q m) is_laid) ∙ between_to s p q m l
 
-    root_vertex : vertex_of A s (edge p q m).root ≡ (edge p q m).vertex
-    root_vertex = ap (λ r. r.vertex) (root_copy s (edge p q m) is_laid)
+    root_vertex : copy_vertex A s (edge p q m).root ≡ (edge p q m).vertex
+    root_vertex = ap (λ r. r.vertex) (root_is_copy s (edge p q m) is_laid)
 
     pub leaf_valid : valid (edge p q m).leaf ≡ true
     leaf_valid = lt-ltb _ _ (leaf_below s (edge p q m) is_laid)
@@ -73,12 +73,12 @@ module _ {M : Type 0} (A : Algebra M) (L : Lawful A) (s : Scene) (ok : Sound s) 
     pub leaves_are_no_roots : (c : ℕ) → is_root c ≡ true → c ≢ (edge p q m).leaf
     leaves_are_no_roots c h e =
         is_laid.apart
-        (between_from s p q m l ∙ sym leaf_board ∙ ap (board_of A s) (sym e)
+        (between_from s p q m l ∙ sym leaf_board ∙ ap (copy_board A s) (sym e)
         ∙ sym (eqb-true _ _ (and_parts (valid c) _ h).1)
-        ∙ ap (λ c. owner s (vertex_of A s c)) e ∙ ap (owner s) leaf_vertex ∙ is_laid.owned)
+        ∙ ap (λ c. owner s (copy_vertex A s c)) e ∙ ap (owner s) leaf_vertex ∙ is_laid.owned)
 
     pub total_along_edge :
-        undivided A s (vertex_of A s (edge p q m).leaf) ≡ undivided A s (vertex_of A s (edge p q m).root)
+        undivided A s (copy_vertex A s (edge p q m).leaf) ≡ undivided A s (copy_vertex A s (edge p q m).root)
     total_along_edge = ap (undivided A s) (leaf_vertex ∙ sym root_vertex)
 
   pub leaf_once : (p q r m k : ℕ) → m < length (line p q) → k < length (line p r)
@@ -93,12 +93,12 @@ module _ {M : Type 0} (A : Algebra M) (L : Lawful A) (s : Scene) (ok : Sound s) 
 
   pub root_or_leaf : (c : ℕ) → valid c ≡ true
       → (is_root c ≡ true)
-      ⊎ ((q : ℕ) × (m : ℕ) × (q < s.boards) × (m < length (line (board_of A s c) q))
-      × ((edge (board_of A s c) q m).leaf ≡ c))
+      ⊎ ((q : ℕ) × (m : ℕ) × (q < s.boards) × (m < length (line (copy_board A s c) q))
+      × ((edge (copy_board A s c) q m).leaf ≡ c))
   root_or_leaf c h =
       let l : c < length (laid_copies s) = ltb-true _ _ h in
-      let p : ℕ = board_of A s c in
-      let v : ℕ = vertex_of A s c in
+      let p : ℕ = copy_board A s c in
+      let v : ℕ = copy_vertex A s c in
       elim (cases_eq p (owner s v)) [
         | inl e ↦ inl (and_from _ _ h (eq-eqb _ _ (sym e)))
         | inr d ↦
@@ -111,27 +111,27 @@ module _ {M : Type 0} (A : Algebra M) (L : Lawful A) (s : Scene) (ok : Sound s) 
 
   -- what an item of the link brings to a root, by edge and by number
   module _ (c : ℕ) (h : is_root c ≡ true) where
-    brings_own : (p m : ℕ) → m < length (line p (board_of A s c))
-        → cond (eqb (edge p (board_of A s c) m).root c) (own_sum A s p (edge p (board_of A s c) m).vertex) A.zero
-        ≡ cond (ltb m (length (line p (board_of A s c))) && eqb (edge p (board_of A s c) m).root c)
-        (own (edge p (board_of A s c) m).leaf) A.zero
+    brings_own : (p m : ℕ) → m < length (line p (copy_board A s c))
+        → cond (eqb (edge p (copy_board A s c) m).root c) (own_sum A s p (edge p (copy_board A s c) m).vertex) A.zero
+        ≡ cond (ltb m (length (line p (copy_board A s c))) && eqb (edge p (copy_board A s c) m).root c)
+        (own_of (edge p (copy_board A s c) m).leaf) A.zero
     brings_own p m l =
         rw (
-          lt-ltb m (length (line p (board_of A s c))) l,
-          leaf_board p (board_of A s c) m l,
-          leaf_vertex p (board_of A s c) m l,
+          lt-ltb m (length (line p (copy_board A s c))) l,
+          leaf_board p (copy_board A s c) m l,
+          leaf_vertex p (copy_board A s c) m l,
         )
 
-    pub total_at_root : undivided A s (vertex_of A s c)
-        ≡ A.join (own c) (join_below A s.boards
-        (λ p. part A (laid A s) own p (board_of A s c) c (length (line p (board_of A s c)))))
+    pub total_at_root : undivided A s (copy_vertex A s c)
+        ≡ A.join (own_of c) (join_below A s.boards
+        (λ p. part A (laid A s) own_of p (copy_board A s c) c (length (line p (copy_board A s c)))))
     total_at_root =
         let (v, w) = and_parts (valid c) _ h in
         let l : c < length (laid_copies s) = ltb-true _ _ v in
-        let q : ℕ = board_of A s c in
-        totals.total_at_root A L s ok q (vertex_of A s c)
+        let q : ℕ = copy_board A s c in
+        totals.total_at_root A L s ok q (copy_vertex A s c)
         (copy_board_below s c l) (copy_vertex_below s c l) (eqb-true _ _ w)
-        ∙ ap (A.join (own c)) (join_below_same A s.boards _ _ (λ p _.
+        ∙ ap (A.join (own_of c)) (join_below_same A s.boards _ _ (λ p _.
         ap (λ n. totals.brought A L s p q n) (numbered s c l)
         ∙ sym (totals.join_below_list A L _ (line p q) no_edge)
         ∙ join_below_same A (length (line p q)) _ _ (λ m ml. brings_own p m ml)))
@@ -139,11 +139,11 @@ module _ {M : Type 0} (A : Algebra M) (L : Lawful A) (s : Scene) (ok : Sound s) 
   unfoldable pub laid_plan : Plan A
   laid_plan = record {
     shape = laid A s;
-    board = board_of A s;
+    board = copy_board A s;
     valid = valid;
     is_root = is_root;
-    own = own;
-    total = λ c. undivided A s (vertex_of A s c);
+    own = own_of;
+    total = λ c. undivided A s (copy_vertex A s c);
     leaf_board = leaf_board;
     root_board = root_board;
     leaf_once = leaf_once;

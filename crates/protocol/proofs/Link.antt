@@ -7,9 +7,10 @@ use Rattle.std.proofs.ByRecursion.{All-append}
 use Rattle.element.specs.declared.words.Words.{Words}
 use Rattle.medium.specs.declared.frame.Frame.{Frame}
 use Rattle.medium.specs.declared.frame.Item.{Item}
-use Rattle.protocol.specs.Frames.{scan, acts, brings, tells_of, odd, words_of, present}
-use Rattle.protocol.proofs.Rows.{Any, any_weaker, all_replicate, Row, new, scan_quiet, acts_quiet, quiet_none}
-use Rattle.protocol.proofs.Rows.{row_weaker, row_from_old, row_append, row_acts, row_scan, row_passes}
+use Rattle.protocol.specs.Frames.{count_after, acts, brings, tells_of, odd, words_of, present}
+use Rattle.protocol.proofs.Rows.{SomeFrame, some_frame_weaker, all_replicate, Row, new, count_after_quiet, acts_quiet}
+use Rattle.protocol.proofs.Rows.{quiet_none}
+use Rattle.protocol.proofs.Rows.{row_weaker, row_from_old, row_append, row_acts, row_count_after, row_passes}
 use Rattle.protocol.proofs.Bits.{AtBit, not_brings_next, brings_below, brings_item, not_tells_same, tells_next}
 
 -- no item, or one with the bit of j, with such words, and one that may be sent
@@ -57,8 +58,8 @@ link_fresh n Holds May = record {
 -- on such a link the frames fw bring nothing, or exactly item j, which may be sent
 abbrev pub Accepts : (n : ℕ) (Holds : ℕ → Words → Type 0) (May : ℕ → Type 0) (j : ℕ) (fw : List Frame)
     → {X : Type 0} → (ℕ → Frame → X → X) → X → Type 0
-Accepts n Holds May j fw g x = ((scan (brings n) j fw ≡ j) × (acts (brings n) g j x fw ≡ x))
-    ⊎ ((scan (brings n) j fw ≡ suc j) × (j < n) × May j
+Accepts n Holds May j fw g x = ((count_after (brings n) j fw ≡ j) × (acts (brings n) g j x fw ≡ x))
+    ⊎ ((count_after (brings n) j fw ≡ suc j) × (j < n) × May j
     × ((f : Frame) × Holds j (words_of f.item) × (acts (brings n) g j x fw ≡ g j f x)))
 
 module _ (n : ℕ) (Holds : ℕ → Words → Type 0) (May : ℕ → Type 0) (i j : ℕ) (fw bw : List Frame)
@@ -74,7 +75,7 @@ module _ (n : ℕ) (Holds : ℕ → Words → Type 0) (May : ℕ → Type 0) (i 
   receives {X} g x = go v.phase
     where
       go : Phase n Holds May i j fw bw → Accepts n Holds May j fw g x
-      go (won a q r) = inl (scan_quiet (brings n) j fw q, acts_quiet (brings n) g j x fw q)
+      go (won a q r) = inl (count_after_quiet (brings n) j fw q, acts_quiet (brings n) g j x fw q)
       go (idle a r q) =
           elim (row_acts (brings n) _ j (λ f y. not_brings_next n j f (carries_bit _ _ j f.item y)) g x r) [
             | inl y ↦ inl y
@@ -84,22 +85,22 @@ module _ (n : ℕ) (Holds : ℕ → Words → Type 0) (May : ℕ → Type 0) (i 
           ]
 
   -- a frame that brings item j is accepted
-  pub link_brings : Any (λ f. brings n j f ≡ true) fw → scan (brings n) j fw ≡ suc j
+  pub link_brings : SomeFrame (λ f. brings n j f ≡ true) fw → count_after (brings n) j fw ≡ suc j
   link_brings s = go v.phase
     where
-      go : Phase n Holds May i j fw bw → scan (brings n) j fw ≡ suc j
+      go : Phase n Holds May i j fw bw → count_after (brings n) j fw ≡ suc j
       go (idle a r q) = row_passes (brings n) _ j (λ f y. not_brings_next n j f (carries_bit _ _ j f.item y)) r s
       go (won a q r) = absurd (quiet_none (brings n) j fw q s)
 
   -- the reply to an accepted item is heard
-  pub link_hears : j ≡ suc i → Any (λ f. f.reply ≡ odd (suc i)) bw → scan (tells_of n) i bw ≡ suc i
+  pub link_hears : j ≡ suc i → SomeFrame (λ f. f.reply ≡ odd (suc i)) bw → count_after (tells_of n) i bw ≡ suc i
   link_hears e s = go v.phase
     where
-      go : Phase n Holds May i j fw bw → scan (tells_of n) i bw ≡ suc i
+      go : Phase n Holds May i j fw bw → count_after (tells_of n) i bw ≡ suc i
       go (idle a r q) = absurd (omega arith)
       go (won a q r) =
           row_passes (tells_of n) _ i (λ f x. not_tells_same n (suc i) f x) r
-          (any_weaker _ _ (λ f h. tells_next n i f (omega (arith, v.le)) h) bw s)
+          (some_frame_weaker _ _ (λ f h. tells_next n i f (omega (arith, v.le)) h) bw s)
 
 -- turns, over which what may be sent may still be sent
 module _ (n : ℕ) (Holds : ℕ → Words → Type 0) (May May' : ℕ → Type 0) (keeps : (k : ℕ) → May k → May' k)
@@ -108,7 +109,7 @@ module _ (n : ℕ) (Holds : ℕ → Words → Type 0) (May May' : ℕ → Type 0
   still_carries f = carries_weaker (Holds j) (Holds j) (May j) (May' j) (λ w h. h) (keeps j) j f.item
 
   -- a turn of the sender: it reads the replies, and puts k copies of f
-  module _ (i' k : ℕ) (f : Frame) (e : i' ≡ scan (tells_of n) i bw)
+  module _ (i' k : ℕ) (f : Frame) (e : i' ≡ count_after (tells_of n) i bw)
       (h : Carries (λ w. i' ≡ j → Holds j w) (May' i') i' f.item) where
     sent_idle : i' ≡ j → Carries (Holds j) (May' j) j f.item
     sent_idle ej = subst (λ c. Carries (Holds j) (May' c) c f.item) ej
@@ -116,10 +117,10 @@ module _ (n : ℕ) (Holds : ℕ → Words → Type 0) (May May' : ℕ → Type 0
 
     sender_phase : Phase n Holds May i j fw bw → Phase n Holds May' i' j (fw ++ replicate k f) []
     sender_phase (idle a r q) =
-        let ej : i' ≡ j = e ∙ scan_quiet (tells_of n) i bw q ∙ a in
+        let ej : i' ≡ j = e ∙ count_after_quiet (tells_of n) i bw q ∙ a in
         idle ej (row_append (brings n) _ j (replicate k f) (row_weaker _ _ _ _ still_carries r)
         (all_replicate _ k f (sent_idle ej))) tt
-    sender_phase (won a q r) = elim (row_scan (tells_of n) _ i (λ g x. not_tells_same n (suc i) g x) r) [
+    sender_phase (won a q r) = elim (row_count_after (tells_of n) _ i (λ g x. not_tells_same n (suc i) g x) r) [
       | inl x ↦
           let e' : i' ≡ i = e ∙ x in
           let quiet = not_brings_next n i' f (carries_bit _ _ i' f.item h) in
@@ -134,10 +135,10 @@ module _ (n : ℕ) (Holds : ℕ → Words → Type 0) (May May' : ℕ → Type 0
     sender = record { le = v.le; asked = λ m l. keeps m (v.asked m l); phase = sender_phase v.phase }
 
   -- a turn of the receiver: it takes the items, and puts k copies of f
-  module _ (j' k : ℕ) (f : Frame) (e : j' ≡ scan (brings n) j fw) (h : f.reply ≡ odd j') where
+  module _ (j' k : ℕ) (f : Frame) (e : j' ≡ count_after (brings n) j fw) (h : f.reply ≡ odd j') where
     receiver_phase : Phase n Holds May i j fw bw → Phase n Holds May' i j' [] (bw ++ replicate k f)
     receiver_phase (idle a r q) =
-        elim (row_scan (brings n) _ j (λ g y. not_brings_next n j g (carries_bit _ _ j g.item y)) r) [
+        elim (row_count_after (brings n) _ j (λ g y. not_brings_next n j g (carries_bit _ _ j g.item y)) r) [
           | inl x ↦
               let e' : j' ≡ j = e ∙ x in
               let same = not_tells_same n i f (h ∙ ap odd (e' ∙ sym a)) in
@@ -148,7 +149,7 @@ module _ (n : ℕ) (Holds : ℕ → Words → Type 0) (May May' : ℕ → Type 0
               won e' tt (row_append (tells_of n) _ i _ old_row (all_replicate _ k f (h ∙ ap odd e')))
         ]
     receiver_phase (won a q r) =
-        let e' : j' ≡ suc i = e ∙ scan_quiet (brings n) j fw q ∙ a in
+        let e' : j' ≡ suc i = e ∙ count_after_quiet (brings n) j fw q ∙ a in
         won e' tt (row_append (tells_of n) _ i _ r (all_replicate _ k f (h ∙ ap odd e')))
 
     pub receiver : LinkInv n Holds May' i j' [] (bw ++ replicate k f)

@@ -6,7 +6,7 @@ use Rattle.std.proofs.lemmas.Bool.{cases_eq, cases_lt, eq-eqb, ne_eqb, lt-ltb, l
 use Rattle.element.specs.Algebra.{Algebra}
 use Rattle.scene.specs.Cells.{Scene}
 use Rattle.plan.specs.Links.{Shape, items}
-use Rattle.protocol.specs.Frames.{brings, scan}
+use Rattle.protocol.specs.Frames.{brings, count_after}
 use Rattle.protocol.specs.Turns.{State, Turned, lost}
 use Rattle.protocol.specs.Books.{Book, fed}
 use Rattle.protocol.specs.Runs.{Moment, Fresh, Turn, Run, fresh, turn, call, seen, laid, accepted_in}
@@ -26,7 +26,7 @@ fed_as_accepted A S s u p book t h a b = elim (cases_eq b p) [
     | inl l ↦ elim (cases_eq a p) [
       | inl x ↦ rw (eq-eqb b p e, lt-ltb a S.boards l, eq-eqb a p x) (h a b ∙ sym (t.j_rest a b (inr (inl x))))
       | inr x ↦ rw (eq-eqb b p e, lt-ltb a S.boards l, ne_eqb a p x)
-          (rw (h a b) (subst (λ c. scan (brings (items S a c)) (s.j a c) (s.lane a c) ≡ u.j a c) (sym e)
+          (rw (h a b) (subst (λ c. count_after (brings (items S a c)) (s.j a c) (s.lane a c) ≡ u.j a c) (sym e)
           (sym (t.j_own a l x))))
     ]
   ]

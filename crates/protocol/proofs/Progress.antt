@@ -3,7 +3,7 @@ use Rattle.std.proofs.Common.{◌≡◌, ℕ, suc, ◌<◌, inl, inr, arith}
 use Rattle.std.proofs.lemmas.Bool.{cases_eq, cases_Bool}
 use Rattle.element.specs.Algebra.{Algebra, Lawful}
 use Rattle.plan.specs.Links.{items}
-use Rattle.protocol.specs.Turns.{State, gathered}
+use Rattle.protocol.specs.Turns.{State, has_gathered}
 use Rattle.protocol.proofs.Plan.{Plan}
 use Rattle.protocol.proofs.Gathering.{May, gathered_is, not_gathered}
 use Rattle.protocol.proofs.Invariant.{Inv, counts_in_order}
@@ -46,7 +46,7 @@ module _ {M : Type 0} {A : Algebra M} (P : Plan A) where
 
   -- no deadlock: where a link lacks an item, some link can go on
   pub some_link_sendable : (s : State M) (a b : ℕ) → Ends P a b → s.j a b < items P.shape a b → Sendable s
-  some_link_sendable s a b ab l = elim (cases_Bool (gathered A P.shape s.j a)) [
+  some_link_sendable s a b ab l = elim (cases_Bool (has_gathered A P.shape s.j a)) [
     | inl g ↦ (a, b, ab, l, inr (gathered_is P s.j a g))
     | inr g ↦
         let (r, lr, ra, k) = not_gathered P s.j a g in

@@ -9,7 +9,7 @@ use Rattle.plan.specs.Links.{no_edge}
 use Rattle.forest.specs.Forest.{laid_copies, laid_edges}
 use Rattle.protocol.specs.Books.{Book, HasAll, report_by}
 use Rattle.protocol.specs.Runs.{Moment, Run, seen, laid, accepted_in}
-use Rattle.protocol.specs.Promise.{Promise, Full, flat, board_of, HoldsOwn, HoldsTotal, EveryRunKeepsThePromise}
+use Rattle.protocol.specs.Promise.{Promise, Full, flat, copy_board, HoldsOwn, HoldsTotal, EveryRunKeepsThePromise}
 use Rattle.protocol.proofs.Plan.{Plan}
 use Rattle.protocol.proofs.Tied.{OfScene}
 use Rattle.protocol.proofs.Pairs.{pairs}
@@ -43,7 +43,7 @@ module _ {M : Type 0} (A : Algebra M) (law : Lawful A) (s : Scene) (P : Plan A) 
   accepted_has_all p h = subst (λ S. HasAll S book p) tie.shape_is (rw book_is h)
 
   settled_hold : (p : ℕ) → p < s.boards → HasAll (laid A s) book p
-      → (c : ℕ) → c < length (laid_copies s) → board_of A s c ≡ p → HoldsTotal A s m c
+      → (c : ℕ) → c < length (laid_copies s) → copy_board A s c ≡ p → HoldsTotal A s m c
   settled_hold p pb h c lc on =
       settled_boards_hold_totals law P (seen A m) run_inv p (rw boards_are pb) (has_all_accepted p h)
       c (tie.is_valid c lc) (tie.board_is c lc ∙ on)

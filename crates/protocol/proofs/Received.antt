@@ -8,12 +8,12 @@ use Rattle.medium.specs.Lanes.{is_lane}
 use Rattle.plan.specs.Links.{Shape, shape, items, edges_between}
 use Rattle.plan.specs.declared.records.Edge.{Edge}
 use Rattle.protocol.specs.declared.table.Link.{Link}
-use Rattle.protocol.specs.Frames.{brings, tells_of, scan, some_item}
-use Rattle.protocol.specs.Turns.{sum_others, takes, takes_all}
+use Rattle.protocol.specs.Frames.{brings, tells_of, count_after, some_item}
+use Rattle.protocol.specs.Turns.{sum_others, copies_after, copies_after_all}
 use Rattle.protocol.specs.Runs.{no_link, link_at}
 use Rattle.protocol.specs.Steps.{Fit, Held, Received, emptied, frames_step, lane_step, lanes_step}
 use Rattle.protocol.proofs.Receiving.{view, Taken, taken}
-use Rattle.protocol.proofs.Rows.{scan_grows}
+use Rattle.protocol.proofs.Rows.{count_after_grows}
 
 pub lane_below : (a b : ℕ) → a < 8 → b < 8 → is_lane a b ≡ true
 lane_below a b l m = rw (lt-ltb a 8 l, lt-ltb b 8 m) refl
@@ -58,12 +58,12 @@ module _ {M : Type 0} (A : Algebra M) (boards : ℕ) (edges : List Edge) (p : �
   pub record Below (k : ℕ) (r' : Received M) : Type 0 where
     pub long : length r'.held.links ≡ 64
     pub i_own : (q : ℕ) → q < k → q ≢ p
-        → (link_at r'.held.links p q).i ≡ scan (tells_of (items P p q)) (link_at links p q).i (r.lanes q p)
+        → (link_at r'.held.links p q).i ≡ count_after (tells_of (items P p q)) (link_at links p q).i (r.lanes q p)
     pub i_rest : (a b : ℕ) → (a ≢ p) ⊎ ((b ≡ p) ⊎ (k ≤ b)) → (link_at r'.held.links a b).i ≡ (link_at links a b).i
     pub j_own : (q : ℕ) → q < k → q ≢ p
-        → (link_at r'.held.links q p).j ≡ scan (brings (items P q p)) (j q p) (r.lanes q p)
+        → (link_at r'.held.links q p).j ≡ count_after (brings (items P q p)) (j q p) (r.lanes q p)
     pub j_rest : (a b : ℕ) → (b ≢ p) ⊎ ((a ≡ p) ⊎ (k ≤ a)) → (link_at r'.held.links a b).j ≡ j a b
-    pub copied : view A r'.held.copies ≡ takes_all A P p k j r.lanes (view A r.held.copies)
+    pub copied : view A r'.held.copies ≡ copies_after_all A P p k j r.lanes (view A r.held.copies)
     pub as_many : length r'.held.copies ≡ length r.held.copies
     pub emptied_own : (q : ℕ) → q < k → q ≢ p → r'.lanes q p ≡ []
     pub lanes_rest : (a b : ℕ) → (b ≢ p) ⊎ ((a ≡ p) ⊎ (k ≤ a)) → r'.lanes a b ≡ r.lanes a b
@@ -142,24 +142,24 @@ module _ {M : Type 0} (A : Algebra M) (boards : ℕ) (edges : List Edge) (p : �
             | inr d ↦ ap (λ (x : Link). x.j) (t.elsewhere (8 * a + b) d (λ e. other (omega arith) (omega arith)))
           ])
 
-      i_here : (link_at h''.links p k).i ≡ scan (tells_of (items P p k)) (link_at links p k).i (r.lanes k p)
+      i_here : (link_at h''.links p k).i ≡ count_after (tells_of (items P p k)) (link_at links p k).i (r.lanes k p)
       i_here =
           ap (λ (x : Link). x.i) (link_here h''.links p k pb kb ∙ t.replies)
-          ∙ ap (λ x. scan (tells_of x) (get_or h.links (8 * p + k) no_link).i (r'.lanes k p))
+          ∙ ap (λ x. count_after (tells_of x) (get_or h.links (8 * p + k) no_link).i (r'.lanes k p))
           (add_comm (P.up k p) (P.up p k))
-          ∙ ap (λ x. scan (tells_of (items P p k)) x (r'.lanes k p))
+          ∙ ap (λ x. count_after (tells_of (items P p k)) x (r'.lanes k p))
           (ap (λ (x : Link). x.i) (sym (link_here h.links p k pb kb)) ∙ v.i_rest p k (inr (inr (omega arith))))
-          ∙ ap (scan (tells_of (items P p k)) (link_at links p k).i) same_frames
+          ∙ ap (count_after (tells_of (items P p k)) (link_at links p k).i) same_frames
 
       before_j : (get_or h.links (8 * k + p) no_link).j ≡ j k p
       before_j = ap (λ (x : Link). x.j) (sym (link_here h.links k p kb pb)) ∙ v.j_rest k p
           (inr (inr (omega arith)))
 
-      j_here : (link_at h''.links k p).j ≡ scan (brings (items P k p)) (j k p) (r.lanes k p)
+      j_here : (link_at h''.links k p).j ≡ count_after (brings (items P k p)) (j k p) (r.lanes k p)
       j_here =
           ap (λ (x : Link). x.j) (link_here h''.links k p kb pb ∙ t.brought)
-          ∙ ap (λ x. scan (brings (items P k p)) x (r'.lanes k p)) before_j
-          ∙ ap (scan (brings (items P k p)) (j k p)) same_frames
+          ∙ ap (λ x. count_after (brings (items P k p)) x (r'.lanes k p)) before_j
+          ∙ ap (count_after (brings (items P k p)) (j k p)) same_frames
 
       not_this_lane : (a b : ℕ) → (a ≡ k → b ≡ p → ⊥) → emptied k p r'.lanes a b ≡ r'.lanes a b
       not_this_lane a b other = elim (cases_eq a k) [
@@ -173,12 +173,12 @@ module _ {M : Type 0} (A : Algebra M) (boards : ℕ) (edges : List Edge) (p : �
           let same : sum_others p k (λ q. (link_at h''.links q p).j - j q p) ≡ sum_others p k
           (λ q. (link_at h.links q p).j - j q p) =
           sum_others_same p k _ _ (λ q l d. ap (λ x. x - j q p) (j_at q p (λ e _. omega arith))) in
-          let grown : j k p ≤ scan (brings (items P k p)) (j k p) (r.lanes k p) = scan_grows (brings (items P k p))
-          (j k p) (r.lanes k p) in
-          let more : h''.accepted + j k p ≡ h.accepted + scan (brings (items P k p)) (j k p) (r.lanes k p) =
+          let grown : j k p ≤ count_after (brings (items P k p)) (j k p) (r.lanes k p) =
+          count_after_grows (brings (items P k p)) (j k p) (r.lanes k p) in
+          let more : h''.accepted + j k p ≡ h.accepted + count_after (brings (items P k p)) (j k p) (r.lanes k p) =
           ap (λ x. h''.accepted + x) (sym before_j) ∙ t.more
-          ∙ ap (λ x. h.accepted + x) (ap (λ x. scan (brings (items P k p)) x (r'.lanes k p)) before_j
-          ∙ ap (scan (brings (items P k p)) (j k p)) same_frames) in
+          ∙ ap (λ x. h.accepted + x) (ap (λ x. count_after (brings (items P k p)) x (r'.lanes k p)) before_j
+          ∙ ap (count_after (brings (items P k p)) (j k p)) same_frames) in
           omega (arith, same, grown, more, j_here, v.items_in)
 
       pub below_more : Below (suc k) (lane_step A edges p k r')
@@ -205,9 +205,9 @@ module _ {M : Type 0} (A : Algebra M) (boards : ℕ) (edges : List Edge) (p : �
         ])
             ∙ v.j_rest a b (later a x);
         copied = t.copied
-            ∙ ap (λ x. takes A P p k x (view A h.copies) (r'.lanes k p)) before_j
-            ∙ ap (λ x. takes A P p k (j k p) x (r'.lanes k p)) v.copied
-            ∙ ap (takes A P p k (j k p) (takes_all A P p k j r.lanes (view A r.held.copies))) same_frames
+            ∙ ap (λ x. copies_after A P p k x (view A h.copies) (r'.lanes k p)) before_j
+            ∙ ap (λ x. copies_after A P p k (j k p) x (r'.lanes k p)) v.copied
+            ∙ ap (copies_after A P p k (j k p) (copies_after_all A P p k j r.lanes (view A r.held.copies))) same_frames
             ∙ rw (ne_eqb k p kp) refl;
         as_many = t.as_many ∙ v.as_many;
         emptied_own = λ q l d. elim (cases_eq q k) [

@@ -10,10 +10,10 @@ use Rattle.medium.specs.declared.frame.Frame.{Frame}
 use Rattle.plan.specs.Links.{Shape, shape, edges_between}
 use Rattle.plan.specs.declared.records.Edge.{Edge}
 use Rattle.protocol.specs.declared.table.Link.{Link}
-use Rattle.protocol.specs.Frames.{brings, tells_of, words_of, scan}
-use Rattle.protocol.specs.Turns.{write, accept, takes}
+use Rattle.protocol.specs.Frames.{brings, tells_of, words_of, count_after}
+use Rattle.protocol.specs.Turns.{write, accept, copies_after}
 use Rattle.protocol.specs.Runs.{no_link}
-use Rattle.protocol.specs.Steps.{Fit, Held, told, grown, advanced, accepted_copies, frame_step, frames_step}
+use Rattle.protocol.specs.Steps.{Fit, Held, after_reply, after_item, advanced, accepted_copies, frame_step, frames_step}
 
 -- copies by number
 abbrev pub view : {M : Type 0} → Algebra M → List M → ℕ → M
@@ -57,21 +57,21 @@ module _ {M : Type 0} (A : Algebra M) (boards : ℕ) (edges : List Edge) (p q : 
     pub long : length h'.links ≡ length h.links
     pub replies : get_or h'.links (8 * p + q) no_link
         ≡ record {
-          i = scan (tells_of n) (get_or h.links (8 * p + q) no_link).i fs;
+          i = count_after (tells_of n) (get_or h.links (8 * p + q) no_link).i fs;
           j = (get_or h.links (8 * p + q)
               no_link).j;
         }
     pub brought : get_or h'.links (8 * q + p) no_link
         ≡ record {
           i = (get_or h.links (8 * q + p) no_link).i;
-          j = scan (brings n)
+          j = count_after (brings n)
               (get_or h.links (8 * q + p) no_link).j fs;
         }
     pub elsewhere : (k : ℕ) → k ≢ 8 * p + q → k ≢ 8 * q + p → get_or h'.links k no_link ≡ get_or h.links k no_link
-    pub copied : view A h'.copies ≡ takes A P p q (get_or h.links (8 * q + p) no_link).j (view A h.copies) fs
+    pub copied : view A h'.copies ≡ copies_after A P p q (get_or h.links (8 * q + p) no_link).j (view A h.copies) fs
     pub as_many : length h'.copies ≡ length h.copies
     pub more : h'.accepted + (get_or h.links (8 * q + p) no_link).j
-        ≡ h.accepted + scan (brings n) (get_or h.links (8 * q + p) no_link).j fs
+        ≡ h.accepted + count_after (brings n) (get_or h.links (8 * q + p) no_link).j fs
 
   module _ (apart : 8 * p + q ≢ 8 * q + p) where
     module _ (f : Frame) (h : Held M) (long : (8 * p + q < length h.links) × (8 * q + p < length h.links)) where
@@ -79,7 +79,7 @@ module _ {M : Type 0} (A : Algebra M) (boards : ℕ) (edges : List Edge) (p q : 
       h' = frame_step A ups downs p q f h
 
       abbrev told_links : List Link
-      told_links = advanced (told n f) (8 * p + q) h.links
+      told_links = advanced (after_reply n f) (8 * p + q) h.links
 
       told_long : length told_links ≡ length h.links
       told_long = length-set h.links (8 * p + q) _
@@ -87,19 +87,19 @@ module _ {M : Type 0} (A : Algebra M) (boards : ℕ) (edges : List Edge) (p q : 
       told_else : (k : ℕ) → k ≢ 8 * p + q → get_or told_links k no_link ≡ get_or h.links k no_link
       told_else k d = get_or-set_other h.links (8 * p + q) k _ no_link d
 
-      told_here : get_or told_links (8 * p + q) no_link ≡ told n f (get_or h.links (8 * p + q) no_link)
+      told_here : get_or told_links (8 * p + q) no_link ≡ after_reply n f (get_or h.links (8 * p + q) no_link)
       told_here = get_or-set_same h.links (8 * p + q) _ no_link long.0
 
       pub step_long : length h'.links ≡ length h.links
       step_long = length-set told_links (8 * q + p) _ ∙ told_long
 
-      pub step_replies : get_or h'.links (8 * p + q) no_link ≡ told n f (get_or h.links (8 * p + q) no_link)
+      pub step_replies : get_or h'.links (8 * p + q) no_link ≡ after_reply n f (get_or h.links (8 * p + q) no_link)
       step_replies = get_or-set_other told_links (8 * q + p) (8 * p + q) _ no_link apart ∙ told_here
 
-      pub step_brought : get_or h'.links (8 * q + p) no_link ≡ grown n f (get_or h.links (8 * q + p) no_link)
+      pub step_brought : get_or h'.links (8 * q + p) no_link ≡ after_item n f (get_or h.links (8 * q + p) no_link)
       step_brought =
           get_or-set_same told_links (8 * q + p) _ no_link (omega (arith, told_long, long.1))
-          ∙ ap (grown n f) (told_else (8 * q + p) (λ e. apart (sym e)))
+          ∙ ap (after_item n f) (told_else (8 * q + p) (λ e. apart (sym e)))
 
       pub step_elsewhere : (k : ℕ) → k ≢ 8 * p + q → k ≢ 8 * q + p → get_or h'.links k no_link ≡ get_or h.links k
           no_link
@@ -150,14 +150,14 @@ module _ {M : Type 0} (A : Algebra M) (boards : ℕ) (edges : List Edge) (p q : 
         (step_brought f h long) in
         record {
           long = v.long ∙ len;
-          replies = v.replies ∙ ap (λ (x : Link). record { i = scan (tells_of n) x.i fs; j = x.j })
+          replies = v.replies ∙ ap (λ (x : Link). record { i = count_after (tells_of n) x.i fs; j = x.j })
               (step_replies f h long);
-          brought = v.brought ∙ ap (λ (x : Link). record { i = x.i; j = scan (brings n) x.j fs })
+          brought = v.brought ∙ ap (λ (x : Link). record { i = x.i; j = count_after (brings n) x.j fs })
               (step_brought f h long);
           elsewhere = λ k d e. v.elsewhere k d e ∙ step_elsewhere f h long k d e;
           copied = v.copied
-              ∙ ap (λ x. takes A P p q x (view A h₁.copies) fs) jj
-              ∙ ap (λ x. takes A P p q (cond b (suc j₀) j₀) x fs)
+              ∙ ap (λ x. copies_after A P p q x (view A h₁.copies) fs) jj
+              ∙ ap (λ x. copies_after A P p q (cond b (suc j₀) j₀) x fs)
               (ap (view A) (step_copies f h long) ∙ elim (cases_Bool b) [
                 | inl e ↦ rw e (accepted_view j₀ (words_of f.item) h.copies fit (brings_below j₀ f e))
                 | inr e ↦ rw e refl
@@ -168,11 +168,11 @@ module _ {M : Type 0} (A : Algebra M) (boards : ℕ) (edges : List Edge) (p q : 
                 let one : (get_or h₁.links (8 * q + p) no_link).j ≡ suc j₀ = jj ∙ ap (λ x. cond x (suc j₀) j₀) e in
                 let two : h₁.accepted ≡ suc h.accepted =
                 step_accepted f h long ∙ ap (λ x. cond x (suc h.accepted) h.accepted) e in
-                rw e (omega (arith, v.more, one, two, ap (λ x. scan (brings n) x fs) one))
+                rw e (omega (arith, v.more, one, two, ap (λ x. count_after (brings n) x fs) one))
             | inr e ↦
                 let one : (get_or h₁.links (8 * q + p) no_link).j ≡ j₀ = jj ∙ ap (λ x. cond x (suc j₀) j₀) e in
                 let two : h₁.accepted ≡ h.accepted =
                 step_accepted f h long ∙ ap (λ x. cond x (suc h.accepted) h.accepted) e in
-                rw e (omega (arith, v.more, one, two, ap (λ x. scan (brings n) x fs) one))
+                rw e (omega (arith, v.more, one, two, ap (λ x. count_after (brings n) x fs) one))
           ];
         }

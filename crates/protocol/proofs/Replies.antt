@@ -6,7 +6,7 @@ use Rattle.plan.specs.Links.{items}
 use Rattle.protocol.specs.Frames.{brings, odd, present}
 use Rattle.protocol.specs.Turns.{State}
 use Rattle.protocol.proofs.Plan.{Plan}
-use Rattle.protocol.proofs.Rows.{Any, scan_grew}
+use Rattle.protocol.proofs.Rows.{SomeFrame, count_after_grew}
 use Rattle.protocol.proofs.Bits.{bit_present, brings_item, some_item_from}
 use Rattle.protocol.proofs.Link.{link_hears}
 use Rattle.protocol.proofs.Invariant.{Inv, LinkOf, counts_in_order}
@@ -22,11 +22,11 @@ module _ {M : Type 0} {A : Algebra M} (P : Plan A) (p q k : ℕ) where
 
   -- and p knows, or a frame waits that tells
   abbrev pub Told : State M → Type 0
-  Told s = Taken s × ((k < s.i p q) ⊎ Any (λ f. f.reply ≡ odd (suc k)) (s.lane q p))
+  Told s = Taken s × ((k < s.i p q) ⊎ SomeFrame (λ f. f.reply ≡ odd (suc k)) (s.lane q p))
 
   -- or else an item of p waits, to which q will reply
   abbrev Asked : State M → Type 0
-  Asked s = Taken s × (Told s ⊎ Any (λ f. present f.item ≡ true) (s.lane p q))
+  Asked s = Taken s × (Told s ⊎ SomeFrame (λ f. present f.item ≡ true) (s.lane p q))
 
   -- item k is not accepted, or it is told
   abbrev Fair : State M → Type 0
@@ -75,7 +75,7 @@ module _ {M : Type 0} {A : Algebra M} (law : Lawful A) (P : Plan A) (p q k : ℕ
   )
 
   -- q's turn, with an item of p taken, tells
-  tells : (s u : State M) → Step P q s u 0 → Taken P p q k u → Any (λ f. present f.item ≡ true) (s.lane p q)
+  tells : (s u : State M) → Step P q s u 0 → Taken P p q k u → SomeFrame (λ f. present f.item ≡ true) (s.lane p q)
       → Told P p q k u
   tells s u st r x = (
     r,
@@ -128,7 +128,7 @@ module _ {M : Type 0} {A : Algebra M} (law : Lawful A) (P : Plan A) (p q k : ℕ
       let more = st.1.j_own p pq.from_board pq.apart in
       let r : Taken P p q k u = record { inv = v; known = omega arith; accepted = g } in
       let n = items P.shape p q in
-      tells s u st r (scan_grew (brings n) _ (brings_item n) (s.j p q) (s.lane p q) (omega arith))
+      tells s u st r (count_after_grew (brings n) _ (brings_item n) (s.j p q) (s.lane p q) (omega arith))
 
   fair_lasts : (t : ℕ) (s u : State M) → Step P t s u 0 → Fair P p q k s → Fair P p q k u
   fair_lasts t s u st (v, f) =
@@ -163,7 +163,7 @@ module _ {M : Type 0} {A : Algebra M} (law : Lawful A) (P : Plan A) (p q k : ℕ
 -- each acceptance that its sender does not know of is being told
 unfoldable pub Good : {M : Type 0} {A : Algebra M} → Plan A → State M → Type 0
 Good P s = (p q : ℕ) → Ends P p q → s.j p q ≡ suc (s.i p q)
-    → Any (λ f. f.reply ≡ odd (suc (s.i p q))) (s.lane q p)
+    → SomeFrame (λ f. f.reply ≡ odd (suc (s.i p q))) (s.lane q p)
 
 pub good_after_window : {M : Type 0} {A : Algebra M} (law : Lawful A) (P : Plan A) (s u : State M)
     → Window (Step P) P.shape.boards s u → Inv P s → Good P u

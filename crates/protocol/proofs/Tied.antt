@@ -6,7 +6,7 @@ use Rattle.scene.specs.Sums.{own_sum, undivided}
 use Rattle.plan.specs.Links.{no_edge}
 use Rattle.forest.specs.Forest.{laid_copies, laid_edges}
 use Rattle.protocol.specs.Runs.{laid}
-use Rattle.protocol.specs.Promise.{board_of, vertex_of}
+use Rattle.protocol.specs.Promise.{copy_board, copy_vertex}
 use Rattle.protocol.proofs.Plan.{Plan}
 use Rattle.protocol.proofs.Pairs.{pairs}
 
@@ -15,9 +15,9 @@ pub record OfScene {M : Type 0} {A : Algebra M} (P : Plan A) (s : Scene) : Type 
   -- the valid copies are those that have a number below the count, each of its record's board and vertex
   pub is_valid : (c : ℕ) → c < length (laid_copies s) → P.valid c ≡ true
   pub valid_is : (c : ℕ) → P.valid c ≡ true → c < length (laid_copies s)
-  pub board_is : (c : ℕ) → c < length (laid_copies s) → P.board c ≡ board_of A s c
-  pub own_is : (c : ℕ) → c < length (laid_copies s) → P.own c ≡ own_sum A s (board_of A s c) (vertex_of A s c)
-  pub total_is : (c : ℕ) → c < length (laid_copies s) → P.total c ≡ undivided A s (vertex_of A s c)
+  pub board_is : (c : ℕ) → c < length (laid_copies s) → P.board c ≡ copy_board A s c
+  pub own_is : (c : ℕ) → c < length (laid_copies s) → P.own c ≡ own_sum A s (copy_board A s c) (copy_vertex A s c)
+  pub total_is : (c : ℕ) → c < length (laid_copies s) → P.total c ≡ undivided A s (copy_vertex A s c)
   -- each edge's leaf is the leaf of an edge between two boards
   pub edge_found : (e : ℕ) → e < length (laid_edges s)
       → (p : ℕ) × (q : ℕ) × (m : ℕ) × (p < s.boards) × (m < P.shape.up p q)

@@ -33,8 +33,8 @@ module _ {S : Type 0} (Step : ℕ → S → S → ℕ → Type 0) where
   Lasts Q = (t : ℕ) (s u : S) → Step t s u 0 → Q s → Q u
 
   -- a step of x without a loss leads from Q to R
-  abbrev pub Leads : ℕ → (S → Type 0) → (S → Type 0) → Type 0
-  Leads x Q R = (s u : S) → Step x s u 0 → Q s → R u
+  abbrev pub StepLeads : ℕ → (S → Type 0) → (S → Type 0) → Type 0
+  StepLeads x Q R = (s u : S) → Step x s u 0 → Q s → R u
 
   pub trip_stays : (Q : S → Type 0) → Lasts Q
       → (ts : List ℕ) (s u : S) (l : ℕ) → Trip Step ts s u l → l ≡ 0 → Q s → Q u
@@ -44,7 +44,7 @@ module _ {S : Type 0} (Step : ℕ → S → S → ℕ → Type 0) where
       trip_stays Q keep ts m u b r (omega arith) (keep t s m (rw za at st) q)
 
   -- in a trip without a loss in which x turns
-  pub trip_turns : (Q R : S → Type 0) (x : ℕ) → Lasts Q → Lasts R → Leads x Q R
+  pub trip_turns : (Q R : S → Type 0) (x : ℕ) → Lasts Q → Lasts R → StepLeads x Q R
       → (ts : List ℕ) (s u : S) (l : ℕ) → Trip Step ts s u l → l ≡ 0 → In x ts → Q s → R u
   trip_turns Q R x before after turn [] s u l h z i q = absurd i
   trip_turns Q R x before after turn (t ∷ ts) s u l (m, a, b, st, r, e) z i q =
@@ -80,7 +80,7 @@ module _ {S : Type 0} (Step : ℕ → S → S → ℕ → Type 0) where
   -- first x turns, then y
   pub window_turns : (boards : ℕ) (s u : S) → Window boards s u
       → (O Q R : S → Type 0) (x y : ℕ) → x < boards → y < boards
-      → Lasts O → Lasts Q → Lasts R → Leads x O Q → Leads y Q R → O s → R u
+      → Lasts O → Lasts Q → Lasts R → StepLeads x O Q → StepLeads y Q R → O s → R u
   window_turns boards s u w O Q R x y xb yb keepO keepQ keepR turn₁ turn₂ o =
       let q = trip_turns O Q x keepO keepQ turn₁ w.circle₁ s w.between 0 w.trip₁ refl (w.full₁ x xb) o in
       trip_turns Q R y keepQ keepR turn₂ w.circle₂ w.between u 0 w.trip₂ refl (w.full₂ y yb) q

@@ -8,7 +8,7 @@ use Rattle.plan.specs.Links.{Shape, shape}
 use Rattle.plan.specs.declared.records.Edge.{Edge}
 use Rattle.protocol.specs.declared.table.Link.{Link}
 use Rattle.protocol.specs.declared.tally.Tally.{Tally}
-use Rattle.protocol.specs.Turns.{Turned, wants, puts, left}
+use Rattle.protocol.specs.Turns.{Turned, wants, owes, left}
 use Rattle.protocol.specs.Runs.{Moment, seen, counts}
 use Rattle.protocol.specs.Steps.{Received, Sent, received, due, due_frame}
 use Rattle.protocol.proofs.Received.{Below, sum_others_same}
@@ -32,7 +32,7 @@ module _ {M : Type 0} (A : Algebra M) (boards : ℕ) (edges : List Edge) (p : �
       same_out : (q : ℕ) → q ≢ p → r.lanes p q ≡ lanes p q
       same_out q d = v.lanes_rest p q (inl d)
 
-      pub same_due : (q : ℕ) → q < boards → q ≢ p → due A boards edges p r.held.links r.got q ≡ puts A P
+      pub same_due : (q : ℕ) → q < boards → q ≢ p → due A boards edges p r.held.links r.got q ≡ owes A P
           (seen A m) (seen A m') p q
       same_due q l d = ap (λ b. wants A P (seen A m) (seen A m') p q || b) (v.got_own q l d)
 

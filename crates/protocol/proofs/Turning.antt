@@ -5,9 +5,9 @@ use Rattle.std.proofs.lemmas.Bool.{or_left, or_right}
 use Rattle.element.specs.Algebra.{Algebra}
 use Rattle.plan.specs.Links.{Shape, items}
 use Rattle.protocol.specs.Frames.{brings, tells_of}
-use Rattle.protocol.specs.Turns.{State, Turned, takes_all, wants, puts, left, lost}
+use Rattle.protocol.specs.Turns.{State, Turned, copies_after_all, wants, owes, left, lost}
 use Rattle.protocol.proofs.Plan.{Plan}
-use Rattle.protocol.proofs.Rows.{scan_grows}
+use Rattle.protocol.proofs.Rows.{count_after_grows}
 use Rattle.protocol.proofs.Elsewhere.{not_written}
 use Rattle.protocol.proofs.Gathering.{May, gathered_is, is_gathered, sum_others_zero}
 
@@ -34,13 +34,13 @@ module _ {M : Type 0} (A : Algebra M) (S : Shape) (s u : State M) (p : ℕ) (t :
   pub j_grows : (a b : ℕ) → s.j a b ≤ u.j a b
   j_grows a b = elim (j_way a b) [
     | inl e ↦ omega arith
-    | inr (e, x, y) ↦ rw (e, t.j_own a y x) (scan_grows (brings (items S a p)) (s.j a p) (s.lane a p))
+    | inr (e, x, y) ↦ rw (e, t.j_own a y x) (count_after_grows (brings (items S a p)) (s.j a p) (s.lane a p))
   ]
 
   pub i_grows : (a b : ℕ) → s.i a b ≤ u.i a b
   i_grows a b = elim (i_way a b) [
     | inl e ↦ omega arith
-    | inr (e, x, y) ↦ rw (e, t.i_own b y x) (scan_grows (tells_of (items S p b)) (s.i p b) (s.lane b p))
+    | inr (e, x, y) ↦ rw (e, t.i_own b y x) (count_after_grows (tells_of (items S p b)) (s.i p b) (s.lane b p))
   ]
 
 module _ {M : Type 0} {A : Algebra M} (P : Plan A) (s u : State M) (p : ℕ) where
@@ -64,7 +64,7 @@ module _ {M : Type 0} {A : Algebra M} (P : Plan A) (s u : State M) (p : ℕ) whe
   ])
 
   -- where no put was lost, each left a frame
-  pub lost_none : lost A S s u p ≡ 0 → (q : ℕ) → q < S.boards → q ≢ p → puts A S s u p q ≡ true → 0 < left A S s u p q
+  pub lost_none : lost A S s u p ≡ 0 → (q : ℕ) → q < S.boards → q ≢ p → owes A S s u p q ≡ true → 0 < left A S s u p q
   lost_none h q l d m = elim (cases_eq (left A S s u p q) 0) [
     | inr z ↦ omega arith
     | inl z ↦
@@ -73,8 +73,8 @@ module _ {M : Type 0} {A : Algebra M} (P : Plan A) (s u : State M) (p : ℕ) whe
   ]
 
   -- accepted items are written to the board's own copies alone
-  pub takes_all_else : (k : ℕ) (c : ℕ) → P.board c ≢ p → takes_all A S p k s.j s.lane s.val c ≡ s.val c
-  takes_all_else k c d =
+  pub copies_after_all_else : (k : ℕ) (c : ℕ) → P.board c ≢ p → copies_after_all A S p k s.j s.lane s.val c ≡ s.val c
+  copies_after_all_else k c d =
       not_written A S p c
       (λ q m l e. d (ap P.board e ∙ P.root_board q p m l))
       (λ q m l e. d (ap P.board e ∙ P.leaf_board p q m l))

@@ -6,7 +6,7 @@ use Rattle.plan.specs.Links.{Shape, items}
 use Rattle.forest.specs.Forest.{lowest}
 use Rattle.protocol.specs.declared.tally.Report.{Report}
 use Rattle.protocol.specs.declared.tally.Report.TheVariants.{Settled, Awaits}
-use Rattle.protocol.specs.Frames.{brings, scan}
+use Rattle.protocol.specs.Frames.{brings, count_after}
 
 abbrev pub Book : Type 0
 Book = ℕ → ℕ → ℕ
@@ -17,7 +17,7 @@ blank p q = 0
 -- an accepted turn of p feeds the book the frames that wait for p as the turn begins
 abbrev pub fed : Shape → ℕ → Lanes → Book → Book
 fed P p lane book a b = cond (b == p && (nat_lt a P.boards && not (a == p)))
-    (scan (brings (items P a b)) (book a b) (lane a b))
+    (count_after (brings (items P a b)) (book a b) (lane a b))
     (book a b)
 
 -- how many items board p lacks from q, by counts of accepted items

@@ -32,9 +32,9 @@ abbrev pub tells_of : ℕ → ℕ → Frame → Bool
 tells_of n i f = nat_lt i n && not (beq f.reply (odd i))
 
 -- a count after frames, oldest first, each of which adds one if it passes
-abbrev pub scan : (ℕ → Frame → Bool) → ℕ → List Frame → ℕ
-scan t c [] = c
-scan t c (f ∷ fs) = scan t (cond (t c f) (suc c) c) fs
+abbrev pub count_after : (ℕ → Frame → Bool) → ℕ → List Frame → ℕ
+count_after t c [] = c
+count_after t c (f ∷ fs) = count_after t (cond (t c f) (suc c) c) fs
 
 -- what frames do, oldest first, where each that passes acts
 abbrev pub acts : {X : Type 0} → (ℕ → Frame → Bool) → (ℕ → Frame → X → X) → ℕ → X → List Frame → X

@@ -25,23 +25,23 @@ flat [] = []
 flat (c ∷ cs) = c ++ flat cs
 
 module _ {M : Type 0} (A : Algebra M) (s : Scene) where
-  abbrev pub board_of : ℕ → ℕ
-  board_of c = (get_or (laid_copies s) c no_copy).board
+  abbrev pub copy_board : ℕ → ℕ
+  copy_board c = (get_or (laid_copies s) c no_copy).board
 
-  abbrev pub vertex_of : ℕ → ℕ
-  vertex_of c = (get_or (laid_copies s) c no_copy).vertex
+  abbrev pub copy_vertex : ℕ → ℕ
+  copy_vertex c = (get_or (laid_copies s) c no_copy).vertex
 
   -- the copy with number c holds its board's own sum; it holds the undivided total
   abbrev pub HoldsOwn : Moment M → ℕ → Type 0
-  HoldsOwn m c = slice_index_or m.copies c A.zero ≡ own_sum A s (board_of c) (vertex_of c)
+  HoldsOwn m c = slice_index_or m.copies c A.zero ≡ own_sum A s (copy_board c) (copy_vertex c)
 
   abbrev pub HoldsTotal : Moment M → ℕ → Type 0
-  HoldsTotal m c = slice_index_or m.copies c A.zero ≡ undivided A s (vertex_of c)
+  HoldsTotal m c = slice_index_or m.copies c A.zero ≡ undivided A s (copy_vertex c)
 
   pub record Promise (ts : List ℕ) (m : Moment M) (book : Book) (losses : ℕ) : Type 0 where
     -- a board that has all its items by the book holds the undivided total at each of its copies
     pub settled_boards_hold_the_total : (p : ℕ) → p < s.boards → HasAll (laid A s) book p
-        → (c : ℕ) → c < length (laid_copies s) → board_of c ≡ p → HoldsTotal m c
+        → (c : ℕ) → c < length (laid_copies s) → copy_board c ≡ p → HoldsTotal m c
     -- a report, made from the table, says what the book says
     pub reports_follow_the_book : (p : ℕ) → p < s.boards
         → report_by (laid A s) (accepted_in m.links) p ≡ report_by (laid A s) book p

@@ -14,7 +14,7 @@ use Rattle.protocol.specs.declared.tally.TurnCounts.{TurnCounts}
 use Rattle.protocol.specs.declared.fault.RunFault.{RunFault}
 use Rattle.protocol.specs.declared.fault.RunFault.TheVariants.{Short, Board, Turns}
 use Rattle.protocol.specs.Faults.{turn_limit}
-use Rattle.protocol.specs.Turns.{State, Turned, sum_others, puts, lost}
+use Rattle.protocol.specs.Turns.{State, Turned, sum_others, owes, lost}
 use Rattle.protocol.specs.Books.{Book, blank, fed, lowest_unsettled}
 
 -- what the calls of a run are given
@@ -64,7 +64,7 @@ abbrev pub counts : {M : Type 0} → Algebra M → Shape → State M → State M
 counts A P s u p = record {
   taken = sum_others p P.boards (λ q. length (s.lane q p));
   accepted = sum_others p P.boards (λ q. u.j q p - s.j q p);
-  puts = sum_others p P.boards (λ q. cond (puts A P s u p q) 1 0);
+  puts = sum_others p P.boards (λ q. cond (owes A P s u p q) 1 0);
   lost = lost A P s u p;
 }
 

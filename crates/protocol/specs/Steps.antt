@@ -11,7 +11,7 @@ use Rattle.plan.specs.Links.{shape, no_edge, edges_between}
 use Rattle.plan.specs.declared.records.Edge.{Edge}
 use Rattle.protocol.specs.declared.table.Link.{Link}
 use Rattle.protocol.specs.Frames.{odd, brings, tells_of, words_of, some_item}
-use Rattle.protocol.specs.Turns.{gathered, sum_others}
+use Rattle.protocol.specs.Turns.{has_gathered, sum_others}
 use Rattle.protocol.specs.Runs.{no_link, link_at, accepted_in}
 
 -- edges that name copies, and are few
@@ -28,15 +28,15 @@ pub record Held (M : Type 0) : Type 0 where
   pub copies : List M
   pub accepted : ℕ
 
-abbrev pub held : {M : Type 0} → List Link → List M → ℕ → Held M
-held links copies accepted = record { links = links; copies = copies; accepted = accepted }
+abbrev pub holdings : {M : Type 0} → List Link → List M → ℕ → Held M
+holdings links copies accepted = record { links = links; copies = copies; accepted = accepted }
 
 -- a link's record after one reply, and after one item
-abbrev pub told : ℕ → Frame → Link → Link
-told n f k = record { i = cond (tells_of n k.i f) (suc k.i) k.i; j = k.j }
+abbrev pub after_reply : ℕ → Frame → Link → Link
+after_reply n f k = record { i = cond (tells_of n k.i f) (suc k.i) k.i; j = k.j }
 
-abbrev pub grown : ℕ → Frame → Link → Link
-grown n f k = record { i = k.i; j = cond (brings n k.j f) (suc k.j) k.j }
+abbrev pub after_item : ℕ → Frame → Link → Link
+after_item n f k = record { i = k.i; j = cond (brings n k.j f) (suc k.j) k.j }
 
 -- one record of the flat table lent and advanced
 abbrev pub advanced : (Link → Link) → ℕ → List Link → List Link
@@ -60,10 +60,10 @@ module _ {M : Type 0} (A : Algebra M) (ups downs : List Edge) where
   abbrev pub frame_step : ℕ → ℕ → Frame → Held M → Held M
   frame_step p q f h =
       let n = length ups + length downs in
-      let links = advanced (told n f) (8 * p + q) h.links in
+      let links = advanced (after_reply n f) (8 * p + q) h.links in
       let j = (get_or links (8 * q + p) no_link).j in
       record {
-        links = advanced (grown n f) (8 * q + p) links;
+        links = advanced (after_item n f) (8 * q + p) links;
         copies = cond (brings n j f) (accepted_copies j (words_of f.item) h.copies) h.copies;
         accepted = cond (brings n j f) (suc h.accepted) h.accepted;
       }
@@ -86,7 +86,7 @@ pub record Received (M : Type 0) : Type 0 where
 
 abbrev pub received : {M : Type 0} → List Link → List M → ℕ → Lanes → ℕ → List Bool → Received M
 received links copies accepted lanes taken got =
-    record { held = held links copies accepted; lanes = lanes; taken = taken; got = got }
+    record { held = holdings links copies accepted; lanes = lanes; taken = taken; got = got }
 
 module _ {M : Type 0} (A : Algebra M) (edges : List Edge) where
   -- all frames that wait from board q, taken by board p
@@ -130,13 +130,13 @@ module _ {M : Type 0} (A : Algebra M) (boards : ℕ) (edges : List Edge) (p : �
   abbrev pub due : List Link → List Bool → ℕ → Bool
   due links got q =
       item_due (edges_between edges p q) (edges_between edges q p) (link_at links p q).i
-      (gathered A (shape boards edges) (accepted_in links) p)
+      (has_gathered A (shape boards edges) (accepted_in links) p)
       || slice_index_or got q false
 
   abbrev pub due_frame : List Link → List M → ℕ → Frame
   due_frame links copies q =
       frame_due A (edges_between edges p q) (edges_between edges q p) (link_at links p q).i (link_at links q p).j
-      (gathered A (shape boards edges) (accepted_in links) p) copies
+      (has_gathered A (shape boards edges) (accepted_in links) p) copies
 
 -- board p's puts to the boards below k, by what they left in the lanes
 pub record Sent (p : ℕ) (due : ℕ → Bool) (frame : ℕ → Frame) (lanes : Lanes) (k : ℕ) (lanes' : Lanes) (made lost : ℕ)

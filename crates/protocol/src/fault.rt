@@ -1,6 +1,6 @@
 // Why a call of a run is refused.
 ghost use Rattle.std.specs.Prelude.{◌≡◌, slice_index};
-ghost use Rattle.element.specs.Numbers.{last_of};
+ghost use Rattle.element.specs.Numbers.{last_number};
 ghost use Rattle.protocol.specs.Faults.{run_numbers};
 
 // How many turns a run has.
@@ -41,7 +41,7 @@ impl RunFault {
 
     // The last of its values.
     pub fn last(&self) -> usize
-        ensures { result ≡ last_of (run_numbers self.now) }
+        ensures { result ≡ last_number (run_numbers self.now) }
     {
         match self {
             RunFault::Kind { kind } => usize::from(*kind),

@@ -4,7 +4,7 @@ use Rattle.std.proofs.ByRecursion.{All-get_or}
 use Rattle.std.proofs.Math.Nat.{mod-add-mod}
 use Rattle.std.proofs.lemmas.Bool.{and_right, cases_eq, cases_lt, eq-eqb, le-ltb, ne_eqb}
 use Rattle.medium.specs.Calls.{Call, take_call, put_call, Leads, LooksLike}
-use Rattle.medium.specs.Fates.{entry, entry_after, table}
+use Rattle.medium.specs.Fates.{entry, entry_after, script_table}
 use Rattle.medium.specs.Held.{queue_count}
 use Rattle.medium.specs.Lanes.{appended, is_lane, shortened}
 use Rattle.medium.specs.Puts.{Scripted}
@@ -32,15 +32,15 @@ rationed s from to f k t eight (stays, r) = (
 )
 
 -- no other code is in the table
-code_at_most_2 : (n : ℕ) → entry (n % length table) ≤ 2
-code_at_most_2 n = All-get_or (λ x. x ≤ 2) table (n % length table) 0 (omega arith) (search arith)
+code_at_most_2 : (n : ℕ) → entry (n % length script_table) ≤ 2
+code_at_most_2 n = All-get_or (λ x. x ≤ 2) script_table (n % length script_table) 0 (omega arith) (search arith)
 
 -- a put to a script over that appends as many as the table says, by the put's number
 by_code : (n : ℕ) (s : Quota Queue) (from to : ℕ) (f : Frame) (k : ℕ) (t : Quota Queue) → limit_of s ≡ 8
-    → Scripted halo_rules.lanes halo_rules.puts (entry (n % length table)) s from to f k t
+    → Scripted halo_rules.lanes halo_rules.puts (entry (n % length script_table)) s from to f k t
     → (k ≡ rough n (halo_rules.lanes s) from to f) × (limit_of t ≡ 8)
 by_code n s from to f k t eight r =
-    let code = entry (n % length table) in
+    let code = entry (n % length script_table) in
     elim (cases_eq code 0) [
       | inl e ↦ rw (eq-eqb code 0 e) (rationed s from to f k t eight (r.passed e))
       | inr d ↦ elim (cases_eq code 1) [
@@ -77,14 +77,14 @@ plain_looks_alike d opened =
 
 -- and the script's next number is that of the puts made so far
 abbrev SameRough : CountedLanes → Script (Quota Queue) → Type 0
-SameRough x s = SamePlain x (below_script s) × (next_of s ≡ x.puts % length table)
+SameRough x s = SamePlain x (below_script s) × (next_of s ≡ x.puts % length script_table)
 
 rough_kept : (c : Call) (x : CountedLanes) (s : Script (Quota Queue)) (y : CountedLanes)
     (t : Script (Quota Queue)) → SameRough x s
     → Leads (computed_rules rough) c x y → Leads rough_rules c s t → SameRough y t
 rough_kept (take_call from to) x s y t ((same, eight), next) (after, puts) (after', (stays, (limit, _))) = (
   (after ∙ ap (λ l. shortened l from to) same ∙ sym after', ap (λ l. l.frames) limit ∙ eight),
-  stays ∙ next ∙ ap (λ n. n % length table) (sym puts),
+  stays ∙ next ∙ ap (λ n. n % length script_table) (sym puts),
 )
 rough_kept (put_call from to f) x s y t ((same, eight), next) (k, after, (puts, count)) (k', after', (moves, r)) =
     let by_number = subst (λ i. Scripted halo_rules.lanes halo_rules.puts (entry i) s.below from to f k' t.below) next r
@@ -94,8 +94,8 @@ rough_kept (put_call from to f) x s y t ((same, eight), next) (k, after, (puts, 
       (after ∙ ap₂ (λ l n. appended l from to f n) same as_many ∙ sym after', still),
       moves
           ∙ ap entry_after next
-          ∙ mod-add-mod x.puts (length table) 1
-          ∙ ap (λ n. n % length table) (sym puts),
+          ∙ mod-add-mod x.puts (length script_table) 1
+          ∙ ap (λ n. n % length script_table) (sym puts),
     )
 
 pub rough_looks_alike : (d : Script (Quota Queue)) → next_of d ≡ 0 → IsOpened (below_script d)

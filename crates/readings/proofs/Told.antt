@@ -14,7 +14,7 @@ use Rattle.scene.specs.declared.fault.SceneFault.{SceneFault}
 use Rattle.scene.proofs.Soundness.{sound}
 use Rattle.scene.proofs.Verdicts.{verdict_ok}
 use Rattle.forest.specs.Forest.{laid_copies, laid_edges}
-use Rattle.cabinet.specs.Listed.{record_room, RunTold, fresh, KindTold, SceneTold, Told, PageTold}
+use Rattle.cabinet.specs.Listed.{record_room, RunTold, fresh, KindTold, SceneTold, VerdictTold, PageTold}
 use Rattle.cabinet.specs.Programs.{halo_rules, rough_rules}
 use Rattle.cabinet.proofs.OnePage.{pages_are_one}
 use Rattle.readings.specs.Media.{Medium, computed_rules, fresh_lanes, plain, rough}
@@ -53,7 +53,7 @@ module _ {D : Type 0} (R : Rules D) (s : Scene) (d : D) where
       }
 
   verdict_told : (r : Result (Unit {0}) SceneFault) (page : List ℕ) → (is_ok r ≡ true → KindTold R s d page)
-      → Told R r s d (page_by r s page)
+      → VerdictTold R r s d (page_by r s page)
   verdict_told (Ok _) page told = laid_told page (told refl)
   verdict_told (Err f) page told = refl
 

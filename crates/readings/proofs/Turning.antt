@@ -14,7 +14,7 @@ use Rattle.forest.specs.Forest.{laid_copies, laid_edges}
 use Rattle.forest.proofs.Accepted.{laid_plan_is_sound}
 use Rattle.protocol.specs.Runs.{laid, seen}
 use Rattle.protocol.specs.Steps.{Received, Sent, received, lanes_step, emptied, due, due_frame}
-use Rattle.protocol.specs.Turns.{puts, frame}
+use Rattle.protocol.specs.Turns.{owes, put_frame}
 use Rattle.protocol.proofs.Fitting.{links_fit}
 use Rattle.protocol.proofs.Lanes.{same_lane_self}
 use Rattle.protocol.proofs.Received.{Below, received_below}
@@ -22,7 +22,7 @@ use Rattle.protocol.proofs.Sending.{sent_itself}
 use Rattle.protocol.proofs.TurnMade.{turn_made, same_due}
 use Rattle.turns.specs.Called.{take_calls, put_calls}
 use Rattle.turns.proofs.Calling.{takes_more, same_put_calls}
-use Rattle.turns.proofs.Putting.{one_put, no_put}
+use Rattle.turns.proofs.Putting.{put_adds_one, no_put}
 use Rattle.turns.proofs.Taking.{none_left, same_emptied}
 use Rattle.circles.specs.Chains.{Snapshot, moment_at, TurnLeads}
 use Rattle.readings.specs.Media.{Medium, CountedLanes, counted_lanes, computed_rules}
@@ -119,7 +119,7 @@ module _ (medium : Medium) where
               made + 1,
               lost + cond (eqb count 0) 1 0,
               rw (ne_eqb k p d, y)
-                  (rw (add-one k) at (one_put p owed frame_owed r.lanes k x.lanes made lost v d _ count y refl)),
+                  (rw (add-one k) at (put_adds_one p owed frame_owed r.lanes k x.lanes made lost v d _ count y refl)),
             )
             | inr z ↦ (
               made,
@@ -161,9 +161,9 @@ module _ {M : Type 0} (A : Algebra M) (medium : Medium) (s : Scene) (ok : Sound 
       let u = seen A (moment_at (computed_rules medium) x) in
       let w = seen A (moment_at (computed_rules medium) y) in
       let between = counted_lanes x.medium.puts r.lanes in
-      let as_due : put_calls (owed medium A s.boards (laid_edges s) p r) (frame A (laid A s) u w p) p s.boards
-      ≡ put_calls (puts A (laid A s) u w p) (frame A (laid A s) u w p) p s.boards
-      = same_put_calls _ _ (frame A (laid A s) u w p) p s.boards
+      let as_due : put_calls (owed medium A s.boards (laid_edges s) p r) (put_frame A (laid A s) u w p) p s.boards
+      ≡ put_calls (owes A (laid A s) u w p) (put_frame A (laid A s) u w p) p s.boards
+      = same_put_calls _ _ (put_frame A (laid A s) u w p) p s.boards
       (same_due A s.boards (laid_edges s) p pb x.tally y.tally x.links x.copies x.medium.lanes y.medium.lanes
       (replicate 8 false) r below made lost v) in
       record {

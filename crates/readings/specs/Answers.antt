@@ -22,7 +22,7 @@ use Rattle.readings.specs.Runs.{led_to, listed_over}
 
 pub data Answer : Type 0 where
   -- a scene, whose plan has so many copies and edges
-  accepted : ℕ → ℕ → Answer
+  accepted_scene : ℕ → ℕ → Answer
   -- no scene: the numbers of its first fault
   refused : List ℕ → Answer
   -- what the vertices come to, in their order
@@ -32,13 +32,13 @@ pub data Answer : Type 0 where
   -- what is reported of the boards
   reports : List Report → Answer
   -- one axis of a force: its word, and the number that this is with a sign
-  axis : ℕ → ℤ → Answer
+  force_axis : ℕ → ℤ → Answer
 
-abbrev pub counted : Scene → Answer
-counted s = accepted (length (laid_copies s)) (length (laid_edges s))
+abbrev pub plan_size : Scene → Answer
+plan_size s = accepted_scene (length (laid_copies s)) (length (laid_edges s))
 
 abbrev pub verdict_on : Result (Unit {0}) SceneFault → Scene → Answer
-verdict_on (Ok _) s = counted s
+verdict_on (Ok _) s = plan_size s
 verdict_on (Err f) s = refused (fault_numbers f)
 
 -- whether the bytes are a scene, and how large its plan is
@@ -64,7 +64,7 @@ reports_within limit medium s =
     reports (map (report_by (laid depth_algebra s) (accepted_in m.links)) (range_with_len 0 s.boards))
 
 abbrev pub signed : ℕ → Answer
-signed word = axis word (to_z w32 word)
+signed word = force_axis word (to_z w32 word)
 
 -- the first axis of two forces joined, which have that axis alone
 abbrev pub join_axes : ℕ → ℕ → Answer

@@ -15,8 +15,8 @@ header kind boards overlap vertices cells =
     0x53 ∷ 0x43 ∷ 1 ∷ kind ∷ boards ∷ overlap ∷ (two vertices ++ two cells)
 
 -- a contribution by its first two words
-abbrev pub part : ℕ → ℕ → List ℕ
-part first second = word first ++ (word second ++ word 0)
+abbrev pub part_bytes : ℕ → ℕ → List ℕ
+part_bytes first second = word first ++ (word second ++ word 0)
 
 -- mark, board, a zero byte, the corners, the contributions
 abbrev pub cell : ℕ → List ℕ → List (List ℕ) → List ℕ
@@ -27,15 +27,15 @@ abbrev pub end : List ℕ
 end = 0x45 ∷ 0x4E ∷ []
 
 -- a contribution that is a depth
-abbrev pub depth : ℕ → List ℕ
-depth value = part value 0
+abbrev pub depth_bytes : ℕ → List ℕ
+depth_bytes value = part_bytes value 0
 
 -- the two triangles: board 0 owns the first, board 1 the second, and they share the vertices 1 and 2
 abbrev pub first_triangle : List ℕ
-first_triangle = cell 0 (0 ∷ 1 ∷ 2 ∷ []) (depth 5 ∷ depth 7 ∷ depth 1 ∷ [])
+first_triangle = cell 0 (0 ∷ 1 ∷ 2 ∷ []) (depth_bytes 5 ∷ depth_bytes 7 ∷ depth_bytes 1 ∷ [])
 
 abbrev pub second_triangle : List ℕ
-second_triangle = cell 1 (1 ∷ 3 ∷ 2 ∷ []) (depth 4 ∷ depth 9 ∷ depth 6 ∷ [])
+second_triangle = cell 1 (1 ∷ 3 ∷ 2 ∷ []) (depth_bytes 4 ∷ depth_bytes 9 ∷ depth_bytes 6 ∷ [])
 
 -- a first cell and the second triangle, by boards, overlap and vertices
 abbrev pub two_cells : ℕ → ℕ → ℕ → List ℕ → List ℕ

@@ -1,7 +1,7 @@
 -- How many frames a put appends, over the media of the two programs; and a medium that appends just as many.
 use Rattle.std.specs.Prelude.{◌≡◌, ℕ, ◌+◌, ◌%◌, cond, length, ◌==◌}
 use Rattle.medium.specs.Calls.{Rules, rules_of}
-use Rattle.medium.specs.Fates.{entry, table}
+use Rattle.medium.specs.Fates.{entry, script_table}
 use Rattle.medium.specs.Held.{queue_count}
 use Rattle.medium.specs.Lanes.{Lanes, appended, empty_lanes}
 use Rattle.medium.specs.declared.frame.Frame.{Frame}
@@ -22,7 +22,7 @@ twice n lanes from to f =
 -- Script over Quota 8 over Queue
 abbrev pub rough : Medium
 rough n lanes from to f =
-    let code = entry (n % length table) in
+    let code = entry (n % length script_table) in
     cond (code == 0) (plain n lanes from to f) (cond (code == 1) 0 (twice n lanes from to f))
 
 -- lanes, and how many puts were made so far

@@ -1,6 +1,6 @@
 // Why a scene is not run: a fault of any layer, as it was met there.
 ghost use Rattle.std.specs.Prelude.{◌≡◌};
-ghost use Rattle.element.specs.Numbers.{first_of, last_of};
+ghost use Rattle.element.specs.Numbers.{first_number, last_number};
 ghost use Rattle.refusals.specs.Numbers.{refusal_numbers};
 ghost use Rattle.refusals.specs.declared.refusal.Refusal.TheVariants.{Scene, Lay, Plan, Run};
 
@@ -54,7 +54,7 @@ impl From<RunFault> for Refusal {
 impl Refusal {
     // The refusal's number.
     pub fn number(&self) -> usize
-        ensures { result ≡ first_of (refusal_numbers self.now) }
+        ensures { result ≡ first_number (refusal_numbers self.now) }
     {
         match self {
             Refusal::Scene(fault) => usize::from(fault.number()),
@@ -66,7 +66,7 @@ impl Refusal {
 
     // The last of its values.
     pub fn last(&self) -> usize
-        ensures { result ≡ last_of (refusal_numbers self.now) }
+        ensures { result ≡ last_number (refusal_numbers self.now) }
     {
         match self {
             Refusal::Scene(fault) => fault.place(),

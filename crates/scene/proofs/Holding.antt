@@ -7,14 +7,14 @@ use Rattle.scene.specs.Rules.{Rule, all_hold, in_record}
 use Rattle.scene.proofs.Counted.{all_counted, counted_all}
 
 -- that a rule holds
-abbrev pub Kept : {F : Type 0} → Rule F → Type 0
-Kept r = r.0 ≡ true
+abbrev pub RuleHolds : {F : Type 0} → Rule F → Type 0
+RuleHolds r = r.0 ≡ true
 
-pub each_kept : {F : Type 0} (rs : List (Rule F)) → all_hold rs ≡ true → AllByRecursion Kept rs
+pub each_kept : {F : Type 0} (rs : List (Rule F)) → all_hold rs ≡ true → AllByRecursion RuleHolds rs
 each_kept [] h = tt
 each_kept (r ∷ rs) h = let p = and_parts r.0 (all_hold rs) h in (p.0, each_kept rs p.1)
 
-pub kept_each : {F : Type 0} (rs : List (Rule F)) → AllByRecursion Kept rs → all_hold rs ≡ true
+pub kept_each : {F : Type 0} (rs : List (Rule F)) → AllByRecursion RuleHolds rs → all_hold rs ≡ true
 kept_each [] h = refl
 kept_each (r ∷ rs) h = and_from r.0 (all_hold rs) h.0 (kept_each rs h.1)
 

@@ -4,14 +4,14 @@ use Rattle.std.proofs.Common.{eqb, subst, mul_comm, arith}
 use Rattle.std.specs.List.{flat_map, AllByRecursion}
 use Rattle.std.proofs.lemmas.List.{length-append}
 use Rattle.std.proofs.lemmas.Bool.{and_parts, leb-true, eqb-true}
-use Rattle.element.specs.Algebra.{Fits, kept}
+use Rattle.element.specs.Algebra.{Fits, first_words}
 use Rattle.element.specs.Kinds.{used_by}
 use Rattle.scene.specs.Cells.{Cell}
 use Rattle.scene.specs.Layout.{byte_at, number_at, word_at, words_at, cell_at, cell_place, cell_size, corner_place}
 use Rattle.scene.specs.Layout.{parts_place, scene_of, corners_of}
 use Rattle.scene.specs.Read.{no_cell}
 use Rattle.scene.specs.Rules.{admits}
-use Rattle.scene.specs.Written.{two_bytes, cell_bytes, header_bytes, written, ProperCell, Proper}
+use Rattle.scene.specs.Written.{two_bytes, cell_bytes, header_bytes, scene_bytes, ProperCell, Proper}
 use Rattle.scene.proofs.Counted.{get_or_counted}
 use Rattle.scene.proofs.Soundness.{all_made, made_length, header_kept, end_kept, cell_fine, sound}
 use Rattle.scene.proofs.Standing.{Stands, moved, glue, same_bytes, length_each, glue_each, number_stands, word_small}
@@ -51,7 +51,7 @@ module _ (b : List ℕ) (small : (i : ℕ) → byte_at b i < 256) (ok : admits b
               fine.apart i j m o (sym (get_or_counted corner k i 0 below) ∙ e ∙ get_or_counted corner k j 0 o);
           fit = all_made Fits (λ j. words_at b (parts_place k at + 12 * j)) k
               (λ j m. (word_small b small _, word_small b small _, word_small b small _));
-          unused = all_made (λ w. kept used w ≡ w) (λ j. words_at b (parts_place k at + 12 * j)) k
+          unused = all_made (λ w. first_words used w ≡ w) (λ j. words_at b (parts_place k at + 12 * j)) k
               (λ j m. kept_same b (parts_place k at + 12 * j) used
               (λ i o past.
               let which : (3 * j + i) % 3 ≡ i = omega arith in
@@ -108,7 +108,7 @@ module _ (b : List ℕ) (small : (i : ℕ) → byte_at b i < 256) (ok : admits b
       (moved b (cell_bytes (read n)) (cell_place k n) (10 + cell_size k * n) (ap (λ m. 10 + m) swap)
       (cell_stands b small k (cell_place k n) fine.room fine.mark fine.blank)))
 
-  pub read_written : b ≡ written (scene_of b)
+  pub read_written : b ≡ scene_bytes (scene_of b)
   read_written =
       let e = end_kept b ok in
       let room = leb-true _ _ e.0 in
@@ -120,6 +120,6 @@ module _ (b : List ℕ) (small : (i : ℕ) → byte_at b i < 256) (ok : admits b
       let all = length-append cells end in
       let ends : Stands b (cell_place k count) end =
       (omega arith, eqb-true _ _ mark.0, (omega arith, eqb-true _ _ mark.1, tt)) in
-      same_bytes b (written (scene_of b)) (omega arith)
+      same_bytes b (scene_bytes (scene_of b)) (omega arith)
       (glue b (header_bytes (scene_of b)) (cells ++ end) 0 header_stands
       (glue b cells end 10 cells_stand (moved b end (cell_place k count) (10 + length cells) (omega arith) ends)))

@@ -13,7 +13,7 @@ use Rattle.scene.specs.Layout.{parts_place, scene_of, corners_of}
 use Rattle.scene.specs.Read.{no_cell, no_words}
 use Rattle.scene.specs.Rules.{head_of, header_rules, cell_rules, cell_record, end_rules, in_record, body_rules}
 use Rattle.scene.specs.Rules.{all_hold, admits}
-use Rattle.scene.specs.Written.{cell_bytes, header_bytes, written, ProperCell, Proper}
+use Rattle.scene.specs.Written.{cell_bytes, header_bytes, scene_bytes, ProperCell, Proper}
 use Rattle.scene.proofs.Counted.{get_or_counted}
 use Rattle.scene.proofs.Holding.{kept_each, append_hold, hold_record, at_hold}
 use Rattle.scene.proofs.Soundness.{CellKept, kept_cell}
@@ -21,9 +21,9 @@ use Rattle.scene.proofs.Standing.{Stands, moved, cut, whole, length_each, cut_ea
 use Rattle.scene.proofs.Cellwise.{CellThere, length_cell, cell_there}
 use Rattle.scene.proofs.Unused.{zero_past}
 
-module _ (s : Scene) (ok : Proper (corners_of (written s)) s) where
+module _ (s : Scene) (ok : Proper (corners_of (scene_bytes s)) s) where
   abbrev b : List ℕ
-  b = written s
+  b = scene_bytes s
 
   abbrev k : ℕ
   k = corners_of b

@@ -16,7 +16,8 @@ use Rattle.scene.specs.Rules.{Rule, head_of, header_rules, start_rules, corner_r
 use Rattle.scene.specs.Rules.{pair_rules, word_rule, cell_rules}
 use Rattle.scene.specs.Rules.{cell_record, end_rules, in_record, body_rules, all_hold, admits}
 use Rattle.scene.proofs.Counted.{all_counted}
-use Rattle.scene.proofs.Holding.{Kept, each_kept, kept_each, hold_append, append_hold, hold_record, hold_at, at_hold}
+use Rattle.scene.proofs.Holding.{RuleHolds, each_kept, kept_each, hold_append, append_hold, hold_record, hold_at}
+use Rattle.scene.proofs.Holding.{at_hold}
 
 -- what holds of each number below n holds of each element made from one
 pub all_made : {X : Type 0} (P : X → Type 0) (f : ℕ → X) (n : ℕ) → ((i : ℕ) → i < n → P (f i))
@@ -115,7 +116,7 @@ module _ (b : List ℕ) (ok : admits b ≡ true) where
   parts : (all_hold (in_record 0 (header_rules b)) ≡ true) × (all_hold (body_rules (head_of b) b) ≡ true)
   parts = hold_append (in_record 0 (header_rules b)) (body_rules (head_of b) b) ok
 
-  pub header_kept : AllByRecursion Kept (header_rules b)
+  pub header_kept : AllByRecursion RuleHolds (header_rules b)
   header_kept = each_kept (header_rules b) (sym (hold_record 0 (header_rules b)) ∙ parts.0)
 
   body : (all_hold (flat_map (cell_record (head_of b) b) (range_with_len 0 (number_at b 8))) ≡ true)
@@ -125,7 +126,7 @@ module _ (b : List ℕ) (ok : admits b ≡ true) where
       (in_record (number_at b 8 + 1) (end_rules b (cell_place (corners_of b) (number_at b 8))))
       parts.1
 
-  pub end_kept : AllByRecursion Kept (end_rules b (cell_place (corners_of b) (number_at b 8)))
+  pub end_kept : AllByRecursion RuleHolds (end_rules b (cell_place (corners_of b) (number_at b 8)))
   end_kept =
       let rules = end_rules b (cell_place (corners_of b) (number_at b 8)) in
       each_kept rules (sym (hold_record (number_at b 8 + 1) rules) ∙ body.1)

@@ -1,7 +1,7 @@
 -- Words past the used ones are zero: said of a contribution, and of the words in the bytes.
 use Rattle.std.proofs.Common.{◌≡◌, ℕ, zero, suc, ◌+◌, ◌*◌, ◌<◌, ◌≤◌, cond, ltb, List, sym, ap, ◌∙◌, inl, inr, arith}
 use Rattle.std.proofs.lemmas.Bool.{cases_lt, cond-true, cond-false, lt-ltb, le-ltb}
-use Rattle.element.specs.Algebra.{kept}
+use Rattle.element.specs.Algebra.{first_words}
 use Rattle.element.specs.declared.words.Words.{Words}
 use Rattle.scene.specs.Layout.{word_at, words_at}
 
@@ -17,7 +17,7 @@ uncleared j used x h =
     ]
 
 module _ (b : List ℕ) (p used : ℕ) where
-  pub zero_past : (w : Words) → words_at b p ≡ w → kept used w ≡ w
+  pub zero_past : (w : Words) → words_at b p ≡ w → first_words used w ≡ w
       → (j : ℕ) → j < 3 → used ≤ j → word_at b (p + 4 * j) ≡ 0
   zero_past w is h zero l past =
       let same : p + 4 * 0 ≡ p = omega arith in
@@ -26,7 +26,8 @@ module _ (b : List ℕ) (p used : ℕ) where
   zero_past w is h (suc (suc zero)) l past = ap (λ v. v.z) is ∙ cleared 2 used w.z (ap (λ v. v.z) h) past
   zero_past w is h (suc (suc (suc j))) l past = let no : ⊥ = omega arith in absurd no
 
-  pub kept_same : ((j : ℕ) → j < 3 → used ≤ j → word_at b (p + 4 * j) ≡ 0) → kept used (words_at b p) ≡ words_at b p
+  pub kept_same : ((j : ℕ) → j < 3 → used ≤ j → word_at b (p + 4 * j) ≡ 0)
+      → first_words used (words_at b p) ≡ words_at b p
   kept_same h =
       let same : p ≡ p + 4 * 0 = omega arith in
       let first = uncleared 0 used (word_at b p) (λ m. ap (word_at b) same ∙ h 0 (omega arith) m) in

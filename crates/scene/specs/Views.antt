@@ -8,5 +8,5 @@ abbrev pub viewed : SceneView → Scene
 viewed v = scene_of v.bytes.now
 
 -- one board, kind 1, no overlap, no vertices and no cells
-abbrev pub smallest : Scene
-smallest = record { kind = 1; boards = 1; overlap = 0; vertices = 0; cells = [] }
+abbrev pub smallest_scene : Scene
+smallest_scene = record { kind = 1; boards = 1; overlap = 0; vertices = 0; cells = [] }

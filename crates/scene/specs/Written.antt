@@ -1,7 +1,7 @@
 -- The bytes of a scene, and which scenes have bytes.
 use Rattle.std.specs.Prelude.{◌≡◌, ℕ, ◌/◌, ◌%◌, ◌<◌, List, [], ◌∷◌, ◌++◌, length, ◌≢◌, slice_index}
 use Rattle.std.specs.List.{flat_map, AllByRecursion}
-use Rattle.element.specs.Algebra.{Fits, kept}
+use Rattle.element.specs.Algebra.{Fits, first_words}
 use Rattle.element.specs.Kinds.{used_by}
 use Rattle.element.specs.declared.words.Words.{Words}
 use Rattle.scene.specs.Cells.{Cell, Scene, Sound}
@@ -28,8 +28,8 @@ header_bytes s =
     header_mark ++ 1 ∷ s.kind ∷ s.boards ∷ s.overlap ∷ (two_bytes s.vertices ++ two_bytes (length s.cells))
 
 -- a header, the cells, an end mark
-abbrev pub written : Scene → List ℕ
-written s = header_bytes s ++ (flat_map cell_bytes s.cells ++ end_mark)
+abbrev pub scene_bytes : Scene → List ℕ
+scene_bytes s = header_bytes s ++ (flat_map cell_bytes s.cells ++ end_mark)
 
 -- a cell of k corners that are all different, with words of 32 bits, and zero past those that the kind uses
 pub record ProperCell (k kind : ℕ) (c : Cell) : Type 0 where
@@ -37,7 +37,7 @@ pub record ProperCell (k kind : ℕ) (c : Cell) : Type 0 where
   pub some_parts : length c.parts ≡ k
   pub apart : (i j : ℕ) → i < j → j < k → slice_index c.corners i ≢ slice_index c.corners j
   pub fit : AllByRecursion Fits c.parts
-  pub unused : AllByRecursion (λ w. kept (used_by kind) w ≡ w) c.parts
+  pub unused : AllByRecursion (λ w. first_words (used_by kind) w ≡ w) c.parts
 
 -- a scene within its ranges, whose cells have k corners
 pub record Proper (k : ℕ) (s : Scene) : Type 0 where
@@ -46,7 +46,7 @@ pub record Proper (k : ℕ) (s : Scene) : Type 0 where
 
 -- bytes are those of the scene s, whose cells have three corners
 abbrev pub Writes : List ℕ → Scene → Type 0
-Writes b s = Proper 3 s × (b ≡ written s)
+Writes b s = Proper 3 s × (b ≡ scene_bytes s)
 
 -- bytes are those of some scene
 abbrev pub Written : List ℕ → Type 0

@@ -13,9 +13,9 @@ module _ (p : ℕ) (due : ℕ → Bool) (frame : ℕ → Frame) (lanes : Lanes) 
 
   module _ (apart : q ≢ p) (lanes'' : Lanes) where
     -- a put that was due, and left n frames
-    pub one_put : (n : ℕ) → due q ≡ true → lanes'' ≡ appended lanes' p q (frame q) n
+    pub put_adds_one : (n : ℕ) → due q ≡ true → lanes'' ≡ appended lanes' p q (frame q) n
         → Sent p due frame lanes (q + 1) lanes'' (made + 1) (lost + cond (eqb n 0) 1 0)
-    one_put n is after = rw (byte_cond (eqb n 0)) at (sent_next p due frame lanes q lanes' made lost v lanes''
+    put_adds_one n is after = rw (byte_cond (eqb n 0)) at (sent_next p due frame lanes q lanes' made lost v lanes''
         true (eqb n 0)
         (λ e. absurd (apart e))
         (λ d. put_speaks p q (frame q) (frame q) n lanes' lanes'' (due q) (eqb n 0) after refl refl is))

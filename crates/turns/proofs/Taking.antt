@@ -14,9 +14,9 @@ first_and_rest : (fs : List Frame) (f : Frame) → Some f ≡ first fs → fs �
 first_and_rest [] f e = cc
 first_and_rest (g ∷ gs) f e = cc
 
-none_waits : (fs : List Frame) → None ≡ first fs → fs ≡ []
-none_waits [] e = refl
-none_waits (g ∷ gs) e = cc
+empty_from_first : (fs : List Frame) → None ≡ first fs → fs ≡ []
+empty_from_first [] e = refl
+empty_from_first (g ∷ gs) e = cc
 
 -- an item among the frames so far, in the next one, or in the rest
 pub item_so_far : (a : Bool) (f : Frame) (fs : List Frame)
@@ -53,5 +53,5 @@ module _ (lanes lanes' : Lanes) (q p : ℕ) (after : lanes' ≡ shortened lanes 
       at a b true h =
           let both = and_parts (eqb a q) (eqb b p) h in
           ap (drop 1) (ap (λ x. lanes x b) (eqb-true a q both.0) ∙ ap (lanes q) (eqb-true b p both.1)
-          ∙ none_waits (lanes q p) (sym none ∙ value))
+          ∙ empty_from_first (lanes q p) (sym none ∙ value))
       at a b false h = refl

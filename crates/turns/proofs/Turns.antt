@@ -11,7 +11,7 @@ use Rattle.plan.specs.declared.records.Edge.{Edge}
 use Rattle.plan.proofs.Plans.{boards_within}
 use Rattle.protocol.specs.declared.table.Link.{Link}
 use Rattle.protocol.specs.declared.tally.TurnCounts.{TurnCounts}
-use Rattle.protocol.specs.Turns.{Turned, puts}
+use Rattle.protocol.specs.Turns.{Turned, owes}
 use Rattle.protocol.specs.Runs.{Moment, moment, no_tally, seen, counts}
 use Rattle.protocol.specs.Steps.{Sent, received, lanes_step, due, due_frame}
 use Rattle.protocol.proofs.Elsewhere.{other_copies_stay, copies_stay_without_frames}
@@ -81,7 +81,7 @@ module _ {M : Type 0} (A : Algebra M) (boards : ℕ) (records : List CopyRecord)
     -- to whom a frame is due, by what was received, is as the rules of a turn say
     abbrev DueByTheRules : Type 0
     DueByTheRules = (q : ℕ) → q < boards → q ≢ p
-        → due A boards edges p links' got' q ≡ puts A (shape boards edges) (seen A m) (seen A m') p q
+        → due A boards edges p links' got' q ≡ owes A (shape boards edges) (seen A m) (seen A m') p q
 
     pub turn_by_the_rules : TurnTaken A boards records edges p m m' (Ok numbers)
         × OwnCopiesAlone A boards records p lanes copies copies'

@@ -5,7 +5,7 @@ use Rattle.medium.specs.Calls.{Call, take_call, put_call}
 use Rattle.medium.specs.Lanes.{Lanes}
 use Rattle.medium.specs.declared.frame.Frame.{Frame}
 use Rattle.plan.specs.Links.{Shape}
-use Rattle.protocol.specs.Turns.{State, puts, frame}
+use Rattle.protocol.specs.Turns.{State, owes, put_frame}
 
 -- board p takes from the lane of each other board below k, ascending: once for each frame that waits there, and once
 -- more, which finds none
@@ -22,4 +22,4 @@ put_calls due frame p (suc q) =
 
 -- the calls of a turn of p that leads from s to u
 abbrev pub turn_calls : {M : Type 0} → Algebra M → Shape → State M → State M → ℕ → List Call
-turn_calls A P s u p = take_calls s.lane p P.boards ++ put_calls (puts A P s u p) (frame A P s u p) p P.boards
+turn_calls A P s u p = take_calls s.lane p P.boards ++ put_calls (owes A P s u p) (put_frame A P s u p) p P.boards

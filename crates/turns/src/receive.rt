@@ -1,7 +1,8 @@
 // The first half of a turn: taking what waits, replies before items.
 ghost use Rattle.std.specs.Prelude.{◌≡◌, ◌+◌, ◌<◌, ◌≤◌, false, cond, length, replicate, slice_set, Some, None};
 ghost use Rattle.protocol.specs.Frames.{brings, some_item, words_of};
-ghost use Rattle.protocol.specs.Steps.{held, told, grown, frame_step, frames_step, emptied, received, lanes_step};
+ghost use Rattle.protocol.specs.Steps.{holdings, after_reply, after_item, frame_step, frames_step, emptied, received};
+ghost use Rattle.protocol.specs.Steps.{lanes_step};
 ghost use Rattle.medium.specs.Calls.{Calls, rules_of, take_call};
 ghost use Rattle.turns.specs.Called.{take_calls};
 
@@ -15,7 +16,7 @@ use protocol::table::{Link, LinkTable};
 
 // A reply that differs from the count's bit tells that one more item has arrived.
 fn hear_reply(counts: &mut Link, items: usize, frame: &Frame)
-    ensures { counts.new ≡ told items frame.now counts.old }
+    ensures { counts.new ≡ after_reply items frame.now counts.old }
 {
     if counts.i < items && frame.reply != bit_of(counts.i) {
         counts.i += 1;
@@ -24,7 +25,7 @@ fn hear_reply(counts: &mut Link, items: usize, frame: &Frame)
 
 // An item is accepted if it has the count's bit; answers its number and words then.
 fn accept_item(counts: &mut Link, items: usize, frame: &Frame) -> Option<(usize, Words)>
-    ensures after { counts.new ≡ grown items frame.now counts.old }
+    ensures after { counts.new ≡ after_item items frame.now counts.old }
     ensures value { result ≡ cond (brings items counts.old.j frame.now)
         (Some (counts.old.j, words_of frame.now.item)) None }
 {
@@ -57,9 +58,9 @@ fn take_frame<E: Element>(
 )
     requires room { link.now.copies ≤ length copies.old }
     requires few { haul.old.taken < 576 }
-    ensures held { held table.new.links copies.new haul.new.accepted ≡ frame_step
+    ensures held { holdings table.new.links copies.new haul.new.accepted ≡ frame_step
         E.Element.algebra link.now.ups.now link.now.downs.now link.now.to link.now.from frame.now
-        (held table.old.links copies.old haul.old.accepted) }
+        (holdings table.old.links copies.old haul.old.accepted) }
     ensures taken { haul.new.taken ≡ haul.old.taken + 1 }
     ensures got { haul.new.got ≡ haul.old.got }
 {
@@ -83,10 +84,10 @@ fn take_lane<E: Element, D: Medium>(
 )
     requires room { link.now.copies ≤ length copies.old }
     requires few { haul.old.taken ≤ 512 }
-    ensures held { held table.new.links copies.new haul.new.accepted ≡ frames_step
+    ensures held { holdings table.new.links copies.new haul.new.accepted ≡ frames_step
         E.Element.algebra link.now.ups.now link.now.downs.now link.now.to link.now.from
         (D.Medium.lanes medium.old link.now.from link.now.to)
-        (held table.old.links copies.old haul.old.accepted) }
+        (holdings table.old.links copies.old haul.old.accepted) }
     ensures lanes { D.Medium.lanes medium.new ≡ emptied link.now.from link.now.to (D.Medium.lanes medium.old) }
     ensures taken { haul.new.taken ≡ haul.old.taken + length (D.Medium.lanes medium.old link.now.from link.now.to) }
     ensures got { haul.new.got ≡ slice_set haul.old.got link.now.from

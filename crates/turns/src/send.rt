@@ -5,7 +5,7 @@ ghost use Rattle.medium.specs.Calls.{Calls, rules_of, put_call};
 ghost use Rattle.medium.specs.Lanes.{appended};
 ghost use Rattle.plan.specs.Links.{edges_between};
 ghost use Rattle.protocol.specs.Runs.{accepted_in};
-ghost use Rattle.protocol.specs.Turns.{others};
+ghost use Rattle.protocol.specs.Turns.{all_others};
 ghost use Rattle.protocol.specs.Steps.{Sent, due, due_frame, item_due, frame_due};
 ghost use Rattle.turns.specs.Called.{put_calls};
 
@@ -115,7 +115,7 @@ impl Puts {
 impl BoardView<'_> {
     // Whether the board has accepted all that rises to it.
     fn has_gathered(&self, table: &LinkTable) -> bool
-        ensures { result ≡ others self.now.board self.now.plan.now.boards
+        ensures { result ≡ all_others self.now.board self.now.plan.now.boards
             (λ q. nat_le (length (edges_between self.now.plan.now.edges.now q self.now.board))
             (accepted_in table.now.links q self.now.board)) }
     {

@@ -1,6 +1,6 @@
 // The numbers that stand for a fault.
 ghost use Rattle.std.specs.Prelude.{◌≡◌, slice_index};
-ghost use Rattle.element.specs.Numbers.{first_of, last_of};
+ghost use Rattle.element.specs.Numbers.{first_number, last_number};
 ghost use Rattle.scene.specs.Faults.{fault_numbers, record_numbers};
 
 use super::{RecordFault, SceneFault};
@@ -9,7 +9,7 @@ use super::{RecordFault, SceneFault};
 impl RecordFault {
     // The refusal's number.
     pub fn number(&self) -> u8
-        ensures { result ≡ first_of (record_numbers self.now) }
+        ensures { result ≡ first_number (record_numbers self.now) }
     {
         match *self {
             RecordFault::Short { .. } => 1,
@@ -24,7 +24,7 @@ impl RecordFault {
 
     // The last of its values: the byte of the scene at which it is broken.
     pub fn last(&self) -> usize
-        ensures { result ≡ last_of (record_numbers self.now) }
+        ensures { result ≡ last_number (record_numbers self.now) }
     {
         match *self {
             RecordFault::Short { place }
@@ -55,7 +55,7 @@ impl SceneFault {
 
     // The last of its values: that of the record's fault.
     pub fn last(&self) -> usize
-        ensures { result ≡ last_of (fault_numbers self.now) }
+        ensures { result ≡ last_number (fault_numbers self.now) }
     {
         self.fault.last()
     }

@@ -2,7 +2,7 @@
 ghost use Rattle.std.specs.Prelude.{◌≡◌, [], ◌∷◌, length, is_ok, Some, None, Ok, Err, Decides};
 ghost use Rattle.element.specs.Kinds.{kind_number};
 ghost use Rattle.scene.specs.Layout.{number_at, corners_of, start_of};
-ghost use Rattle.scene.specs.Views.{viewed, smallest};
+ghost use Rattle.scene.specs.Views.{viewed, smallest_scene};
 ghost use Rattle.scene.specs.Written.{Written, ReadsBack};
 ghost use Rattle.scene.specs.Rules.{verdict, scene_rules, admits};
 ghost use Rattle.scene.specs.Read.{board_of, corner_of, part_of};
@@ -19,7 +19,7 @@ use element::words::Words;
 impl<'a> SceneView<'a> {
     // One board, kind 1, no overlap, no vertices and no cells.
     pub fn new() -> SceneView<'a>
-        ensures scene { viewed result ≡ smallest }
+        ensures scene { viewed result ≡ smallest_scene }
         ensures raw { result.bytes.now ≡ 0x53 ∷ 0x43 ∷ 1 ∷ 1 ∷ 1 ∷ 0 ∷ 0 ∷ 0 ∷ 0 ∷ 0 ∷ 0x45 ∷ 0x4E ∷ [] }
     {
         SceneView {

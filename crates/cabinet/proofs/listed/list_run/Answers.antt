@@ -11,7 +11,7 @@ use Rattle.circles.specs.Chains.{Snapshot, snapshot, moment_at, all_settled}
 use Rattle.circles.specs.Circles.{SettleAnswers}
 use Rattle.listing.specs.declared.lines.PlanNumbers.{PlanNumbers}
 use Rattle.cabinet.specs.Listed.{fresh, circle_limit, started}
-use Rattle.cabinet.specs.Pages.{head_page, boards_page, reports}
+use Rattle.cabinet.specs.Pages.{head_page, boards_page, table_report}
 use Rattle.cabinet.proofs.Runs.{run_listed, run_refused, same_numbers, same_start}
 use Rattle.cabinet.proofs.listed.list_run.Goals as goal
 
@@ -38,8 +38,8 @@ returns g c =
     subst (λ (z : Snapshot g.row.E.Denot g.row.D.Denot). Kept A s [] (moment_at R z) blank 0) started_so
     (begun.promise c.requires.laid) in
     let made = subst (λ (z : Snapshot g.row.E.Denot g.row.D.Denot).
-        SettleAnswers A R plan.boards records edges (all_settled (shape plan.boards edges)) circle_limit z y
-        c.settle_all.result) started_so c.settle_all.ensures in
+    SettleAnswers A R plan.boards records edges (all_settled (shape plan.boards edges)) circle_limit z y
+    c.settle_all.result) started_so c.settle_all.ensures in
     let n : PlanNumbers = record {
       boards = c.boards.result;
       overlap = c.overlap.result;
@@ -54,7 +54,7 @@ returns g c =
     c.requires.laid (
       made,
       e ∙ ap (λ k. head_page k y.tally
-          ++ boards_page A (reports plan.boards edges y.links) records y.copies plan.boards) same,
+          ++ boards_page A (table_report plan.boards edges y.links) records y.copies plan.boards) same,
     ))) c.list_turned.ensures
 
 pub returns-in_err-turning : goal.returns-in_err-turning

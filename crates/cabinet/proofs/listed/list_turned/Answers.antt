@@ -6,7 +6,7 @@ use Rattle.protocol.specs.Books.{lowest_unsettled}
 use Rattle.protocol.specs.Runs.{accepted_in}
 use Rattle.protocol.specs.declared.tally.Report.TheVariants.{Settled}
 use Rattle.exchange.proofs.Shown.{all_reported}
-use Rattle.cabinet.specs.Pages.{head_page, reports}
+use Rattle.cabinet.specs.Pages.{head_page, table_report}
 use Rattle.cabinet.proofs.Pages.{same_reports}
 use Rattle.cabinet.proofs.listed.list_turned.Goals as goal
 
@@ -19,6 +19,6 @@ returns-in-Ok g c =
     = omega (arith, ended.0) in
     IfOk-weaker c.list-page.result _ _ (λ _ e. e ∙ ap₂ ◌++◌ (ap (head_page c.args.numbers) ended.2)
     (same_reports g.E.Element.algebra plan.copies.now c.args.values.now (λ _. Settled)
-    (reports plan.boards plan.edges.now links) plan.boards
+    (table_report plan.boards plan.edges.now links) plan.boards
     (λ p l. sym (all_reported (shape plan.boards plan.edges.now) (accepted_in links) all p l))))
     c.list-page.ensures

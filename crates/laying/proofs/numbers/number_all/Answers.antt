@@ -1,7 +1,7 @@
 -- One board more.
 use Rattle.std.proofs.Common.{◌≡◌, ℕ, List, [], length, take, ap, ◌∙◌, arith}
 use Rattle.std.proofs.lemmas.List.{length-set, length-take}
-use Rattle.laying.specs.Rows.{Holds, flag, many}
+use Rattle.laying.specs.Rows.{Tabulates, flag_at, many}
 use Rattle.laying.specs.Tables.{row, board_copies, number_in}
 use Rattle.laying.proofs.Gather.{length_more}
 use Rattle.laying.proofs.Layers.{filled_more}
@@ -21,7 +21,7 @@ loop-p-preserved c =
     let numbers = c.loop-p.numbers in
     let here = c.number_row-next.new.numbers in
     let told = c.number_row-next.ensures in
-    let P : ℕ → List ℕ → Type 0 = λ q r. Holds r n (number_in table n q) in
+    let P : ℕ → List ℕ → Type 0 = λ q r. Tabulates r n (number_in table n q) in
     let long : length (take n kept) ≡ n =
     omega (arith, length-take n kept, c.told-kept p c.loop-p-test.true, c.requires.vertices)
     in
@@ -35,7 +35,7 @@ loop-p-preserved c =
             length_more (board_copies table n) p,
             row_size kept p n,
             flags_taken kept n (length (take n kept)) (omega arith),
-            ap (many (flag kept)) long,
+            ap (many (flag_at kept)) long,
           );
       done =
           filled_more

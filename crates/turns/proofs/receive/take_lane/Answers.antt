@@ -1,7 +1,7 @@
 -- Frame by frame, what is left of the lane grows shorter.
 use Rattle.std.proofs.Common.{◌≡◌, ◌||◌, ◌∷◌, length, sym, ap, ◌∙◌, arith, rules}
 use Rattle.protocol.specs.Frames.{some_item}
-use Rattle.protocol.specs.Steps.{held, frames_step}
+use Rattle.protocol.specs.Steps.{holdings, frames_step}
 use Rattle.turns.proofs.Taking.{item_so_far, one_taken, same_emptied, none_left}
 use Rattle.turns.proofs.Calling.{one_call_more}
 use Rattle.turns.proofs.receive.take_lane.Goals as goal
@@ -11,7 +11,7 @@ loop-frame-preserved g c =
     let link = c.args.link.now in
     let before = g.D.Medium.lanes c.loop-frame.medium in
     let rest = g.D.Medium.lanes c.take.new.self in
-    let was = held c.loop-frame.table.links c.loop-frame.copies c.loop-frame.haul.accepted in
+    let was = holdings c.loop-frame.table.links c.loop-frame.copies c.loop-frame.haul.accepted in
     let frame = c.in-Some.frame in
     let steps = frames_step g.E.Element.algebra link.ups.now link.downs.now link.to link.from in
     let v = c.loop-frame.invariant in

@@ -2,7 +2,7 @@
 use Rattle.std.proofs.Common.{◌≡◌, ◌+◌, ◌-◌, ◌≤◌, ◌||◌, length, replicate}
 use Rattle.medium.specs.Calls.{Calls, rules_of, take_call}
 use Rattle.protocol.specs.Frames.{some_item}
-use Rattle.protocol.specs.Steps.{emptied, held, frames_step}
+use Rattle.protocol.specs.Steps.{emptied, holdings, frames_step}
 use Rattle.turns.proofs.receive.take_lane.Given as goal
 
 abbrev pub invariant-loop-frame : goal.invariant-loop-frame
@@ -13,8 +13,8 @@ invariant-loop-frame g l =
     let now = g.D.Medium.lanes l.medium in
     let steps = frames_step g.E.Element.algebra l.link.ups.now l.link.downs.now p q in
     record {
-      held_so : steps (now q p) (held l.table.links l.copies l.haul.accepted)
-          ≡ steps (was q p) (held l.initial.table.links l.initial.copies l.initial.haul.accepted);
+      held_so : steps (now q p) (holdings l.table.links l.copies l.haul.accepted)
+          ≡ steps (was q p) (holdings l.initial.table.links l.initial.copies l.initial.haul.accepted);
       lanes_so : emptied q p now ≡ emptied q p was;
       item_so : (l.item || some_item (now q p)) ≡ some_item (was q p);
       taken_so : l.haul.taken + length (now q p) ≡ l.initial.haul.taken + length (was q p);

@@ -2,7 +2,7 @@
 use Rattle.std.proofs.Common.{◌≡◌, arith, rules}
 use Rattle.medium.specs.Calls.{no_call, rules_of}
 use Rattle.protocol.specs.Steps.{due, due_frame}
-use Rattle.turns.proofs.Putting.{itself, one_put, no_put}
+use Rattle.turns.proofs.Putting.{itself, put_adds_one, no_put}
 use Rattle.turns.proofs.Calling.{no_put_to_itself, puts_more}
 use Rattle.turns.proofs.board.BoardView.send.Goals as goal
 use Rattle.turns.proofs.board.BoardView.send.Goals.{in-Some, in_default}
@@ -58,7 +58,7 @@ loop-q-preserved g c =
             c.has_gathered-gathered.ensures,
           ) at w.in-Some.ensures.lanes in
           rw (w.puts-is, w.add.ensures.made, w.add.ensures.lost) record {
-            so_far = one_put p owed frame (lanes c.args.medium.now) q (lanes c.loop-q.medium) c.loop-q.puts.made
+            so_far = put_adds_one p owed frame (lanes c.args.medium.now) q (lanes c.loop-q.medium) c.loop-q.puts.made
                 c.loop-q.puts.lost v.so_far c.if-q-self.false (lanes c.speak.new.medium) w.in-Some.left is after;
             calls = calls;
             few = omega arith;
