@@ -1,6 +1,6 @@
 -- Pages of the same bytes over media that no calls tell apart are one page.
-use Rattle.std.proofs.Common.{is_ok, ◌≡◌, ℕ, suc, ◌/◌, ◌%◌, ◌<◌, ◌≤◌, true, false, cond, ◌&&◌, List, [], ◌∷◌, ◌++◌, length, Ok, Err, Result}
-use Rattle.std.proofs.Common.{refl, sym, ap, ap₂, ◌∙◌, subst, inl, inr, ◌⊎◌, arith}
+use Rattle.std.proofs.Common.{is_ok, ◌≡◌, ℕ, ◌/◌, ◌%◌, true, List, ◌++◌, length, Ok, Err, Result}
+use Rattle.std.proofs.Common.{refl, sym, ap, ap₂, ◌∙◌, subst, inl, inr, arith}
 use Rattle.std.proofs.Math.Path.{fun_ext}
 use Rattle.std.proofs.lemmas.Bool.{and_parts, cases_eq, cases_lt, leb-true}
 use Rattle.element.specs.Algebra.{Algebra}
@@ -9,17 +9,16 @@ use Rattle.element.specs.Models.{force_algebra, depth_algebra, tags_algebra}
 use Rattle.std.specs.Prelude.{nat_le}
 use Rattle.medium.specs.Calls.{Rules, LooksLike}
 use Rattle.medium.proofs.Calling.{alike_lanes}
-use Rattle.medium.specs.Lanes.{Lanes}
-use Rattle.scene.specs.Cells.{Scene, Sound}
+use Rattle.scene.specs.Cells.{Scene}
 use Rattle.scene.specs.Layout.{scene_of}
-use Rattle.scene.specs.Rules.{Rule, all_hold, admits, scene_rules, verdict}
+use Rattle.scene.specs.Rules.{scene_rules, verdict}
 use Rattle.scene.specs.declared.fault.SceneFault.{SceneFault}
 use Rattle.scene.proofs.Soundness.{sound}
 use Rattle.scene.proofs.Verdicts.{verdict_ok}
 use Rattle.forest.specs.Forest.{laid_copies, laid_edges}
 use Rattle.protocol.specs.Runs.{laid, accepted_in}
 use Rattle.exchange.specs.Calls.{FirstWaiting, IdleBefore}
-use Rattle.circles.specs.Chains.{moment_at, all_settled}
+use Rattle.circles.specs.Chains.{all_settled}
 use Rattle.circles.proofs.One.{circles_have_one_end}
 use Rattle.cabinet.specs.Listed.{record_room, circle_limit, started, Listed, RunTold, fresh, waits, KindTold, SceneTold}
 use Rattle.cabinet.specs.Listed.{VerdictTold, PageTold}

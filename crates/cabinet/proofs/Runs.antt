@@ -130,7 +130,7 @@ module _ {M D : Type 0} (A : Algebra M) (law : Lawful A) (R : Rules D) (s : Scen
       }
   laid_run_listed (Err f) plan ((some, _), told) =
       let all : length (loaded_copies A s (laid_copies s)) ≡ length (laid_copies s) = length-map (laid_copies s) _ in
-      absurd (not_both (room_fault (laid_copies s) (started A s d))
+      absurd (not_both (room_fault (laid_copies s) (length (loaded_copies A s (laid_copies s))))
       (rw (le-leb (length (laid_copies s)) (length (loaded_copies A s (laid_copies s))) (omega arith)) refl) some)
 
   pub run_listed : (r : Result Settling RunFault) (boards : ℕ) (records : List CopyRecord) (edges : List Edge)

@@ -1,5 +1,5 @@
 -- What the page of a scene tells, run over a medium of these rules.
-use Rattle.std.specs.Prelude.{◌≡◌, ℕ, ◌/◌, ◌%◌, ◌<◌, ◌≤◌, List, [], length, replicate, Ok, Err, Result}
+use Rattle.std.specs.Prelude.{◌≡◌, ℕ, ◌/◌, ◌%◌, ◌<◌, ◌≤◌, List, length, replicate, Ok, Err, Result}
 use Rattle.element.specs.Algebra.{Algebra}
 use Rattle.element.specs.Models.{force_algebra, depth_algebra, tags_algebra}
 use Rattle.element.specs.declared.force.Force.{Force}

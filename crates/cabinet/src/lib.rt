@@ -7,5 +7,4 @@ mod page;
 pub mod prepare;
 pub mod programs;
 
-pub use circles::settle;
 pub use refusals::refusal;

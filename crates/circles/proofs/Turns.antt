@@ -1,7 +1,7 @@
 -- What turns and circles one after the other come to: how many turns, how much memory, and every run carried on.
-use Rattle.std.proofs.Common.{◌≡◌, ℕ, zero, suc, ◌+◌, ◌*◌, ◌<◌, ◌≤◌, Bool, List, [], ◌∷◌, ◌++◌, length, None, Some, Option}
-use Rattle.std.proofs.Common.{Err, Result, sym, refl, ap, ◌∙◌, subst, add-mul, add-one, arith}
-use Rattle.std.proofs.lemmas.Bool.{lt-ltb, le-leb}
+use Rattle.std.proofs.Common.{◌≡◌, ℕ, suc, ◌+◌, ◌*◌, ◌<◌, ◌≤◌, Bool, leb, List, length, None}
+use Rattle.std.proofs.Common.{Err, sym, refl, ap, ◌∙◌, subst, add-mul, add-one, inl, inr, arith}
+use Rattle.std.proofs.lemmas.Bool.{cases_Bool, leb-true, lt-ltb, le-leb}
 use Rattle.std.specs.List.{range_with_len}
 use Rattle.element.specs.Algebra.{Algebra, Lawful}
 use Rattle.medium.specs.Calls.{Rules}
@@ -13,14 +13,13 @@ use Rattle.forest.proofs.Filters.{counting_next}
 use Rattle.protocol.specs.Faults.{turn_limit}
 use Rattle.protocol.specs.Runs.{Moment, turn_fault, seen, counts}
 use Rattle.protocol.specs.declared.tally.Tally.{Tally}
-use Rattle.protocol.specs.declared.tally.TurnCounts.{TurnCounts}
 use Rattle.protocol.specs.declared.fault.RunFault.{RunFault}
 use Rattle.exchange.specs.Calls.{TurnAnswers}
 use Rattle.exchange.specs.Going.{LaidPlan, Carried}
 use Rattle.exchange.proofs.Promises.{carried_nowhere, carried_on, carried_further, turn_goes_on}
 use Rattle.circles.specs.Chains.{Snapshot, moment_at, TurnsLead, no_turn, next_turn, CirclesLead, no_circle}
 use Rattle.circles.specs.Chains.{next_circle}
-use Rattle.circles.specs.Circles.{circles}
+use Rattle.circles.specs.Circles.{circle_fault, circles}
 
 module _ {M D : Type 0} (A : Algebra M) (R : Rules D) (P : Shape) where
   -- each turn is one of the tally's, and the memory keeps its length
@@ -61,6 +60,17 @@ module _ {M D : Type 0} (A : Algebra M) (law : Lawful A) (R : Rules D) (boards :
   circles_carry met x y k (next_circle j v w before un circle) =
       carried_further A law s (moment_at R x) (moment_at R v) (moment_at R w) (circles boards j)
       (range_with_len 0 boards) (circles_carry met x v j before) (turns_carry v w boards circle)
+
+-- a circle that is allowed has room, and turns for all boards
+pub circle_allowed : (boards : ℕ) (records : List CopyRecord) (room turns : ℕ)
+    → circle_fault boards records room turns ≡ None → (length records ≤ room) × (turns + boards ≤ turn_limit)
+circle_allowed boards records room turns none = elim (cases_Bool (leb (length records) room)) [
+  | inl e ↦ elim (cases_Bool (leb (turns + boards) turn_limit)) [
+    | inl l ↦ (leb-true (length records) room e, leb-true (turns + boards) turn_limit l)
+    | inr m ↦ absurd (let no = rw (e, m) at none in cc)
+  ]
+  | inr e ↦ absurd (let no = rw e at none in cc)
+]
 
 -- a turn of a board that there is, with room and a turn left, is not refused
 pub not_refused : {M : Type 0} (A : Algebra M) (boards : ℕ) (records : List CopyRecord) (edges : List Edge) (p : ℕ)

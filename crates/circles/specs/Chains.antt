@@ -1,16 +1,11 @@
 -- Turns and circles one after the other, over a medium that goes from call to call.
-use Rattle.std.specs.Prelude.{◌≡◌, ℕ, suc, ◌+◌, ◌<◌, ◌≤◌, Bool, true, false, cond, not, List, length, Option, Some}
-use Rattle.std.specs.Prelude.{None, Ok, Err, Result, nat_le, nat_lt}
+use Rattle.std.specs.Prelude.{◌≡◌, ℕ, suc, ◌≤◌, Bool, false, not, List}
+use Rattle.std.specs.Prelude.{nat_lt}
 use Rattle.element.specs.Algebra.{Algebra}
 use Rattle.medium.specs.Calls.{Rules, Calls}
-use Rattle.plan.specs.Links.{Shape, shape}
-use Rattle.plan.specs.declared.records.CopyRecord.{CopyRecord}
-use Rattle.plan.specs.declared.records.Edge.{Edge}
+use Rattle.plan.specs.Links.{Shape}
 use Rattle.protocol.specs.Books.{lowest_unsettled}
-use Rattle.protocol.specs.Faults.{turn_limit}
 use Rattle.protocol.specs.Runs.{Moment, Turn, moment, seen, accepted_in}
-use Rattle.protocol.specs.declared.fault.RunFault.{RunFault}
-use Rattle.protocol.specs.declared.fault.RunFault.TheVariants.{Short, Turns}
 use Rattle.protocol.specs.declared.table.Link.{Link}
 use Rattle.protocol.specs.declared.tally.Tally.{Tally}
 use Rattle.turns.specs.Called.{turn_calls}

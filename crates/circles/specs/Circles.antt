@@ -2,6 +2,7 @@
 use Rattle.std.specs.Prelude.{◌≡◌, ℕ, zero, suc, ◌+◌, ◌<◌, ◌≤◌, Bool, true, false, cond, List, [], ◌++◌, length}
 use Rattle.std.specs.Prelude.{Option, Some, None, Ok, Err, Result, nat_le}
 use Rattle.std.specs.List.{range_with_len}
+use Rattle.std.specs.Option.{option_or}
 use Rattle.element.specs.Algebra.{Algebra}
 use Rattle.medium.specs.Calls.{Rules}
 use Rattle.plan.specs.Links.{shape}
@@ -22,22 +23,23 @@ circles boards zero = []
 circles boards (suc k) = circles boards k ++ range_with_len 0 boards
 
 -- too little memory for the plan's copies
-abbrev pub room_fault : {M D : Type 0} → List CopyRecord → Snapshot M D → Option RunFault
-room_fault records x = cond (nat_le (length records) (length x.copies)) None (Some (Short (length records)))
+abbrev pub room_fault : List CopyRecord → ℕ → Option RunFault
+room_fault records room = cond (nat_le (length records) room) None (Some (Short (length records)))
 
--- why a circle is refused: too little memory for the plan's copies, then too few turns left for all boards
-abbrev pub circle_fault : {M D : Type 0} → ℕ → List CopyRecord → Snapshot M D → Option RunFault
-circle_fault boards records x =
-    cond (nat_le (length records) (length x.copies))
-    (cond (nat_le (x.tally.turns + boards) turn_limit) None (Some Turns))
-    (Some (Short (length records)))
+-- why a circle is refused after so many turns: too little memory for the plan's copies, then too few turns left for all
+-- boards
+abbrev pub circle_fault : ℕ → List CopyRecord → ℕ → ℕ → Option RunFault
+circle_fault boards records room turns =
+    option_or (room_fault records room) (cond (nat_le (turns + boards) turn_limit) None (Some Turns))
 
 module _ {M D : Type 0} (A : Algebra M) (R : Rules D) (boards : ℕ) (records : List CopyRecord) (edges : List Edge)
   where
     -- one turn of each board, ascending; refused, all stays as it was
     abbrev pub CircleAnswers : Snapshot M D → Snapshot M D → Result (Unit {0}) RunFault → Type 0
-    CircleAnswers x y (Ok _) = (circle_fault boards records x ≡ None) × TurnsLead A R (shape boards edges) x boards y
-    CircleAnswers x y (Err f) = (circle_fault boards records x ≡ Some f) × (y ≡ x)
+    CircleAnswers x y (Ok _) =
+        (circle_fault boards records (length x.copies) x.tally.turns ≡ None)
+        × TurnsLead A R (shape boards edges) x boards y
+    CircleAnswers x y (Err f) = (circle_fault boards records (length x.copies) x.tally.turns ≡ Some f) × (y ≡ x)
 
     -- why no further circle was made at y, after k: the test holds; or as many were made as allowed; or too few turns
     -- are left for all boards
@@ -51,8 +53,8 @@ module _ {M D : Type 0} (A : Algebra M) (R : Rules D) (boards : ℕ) (records : 
     abbrev pub SettleAnswers : ((ℕ → ℕ → ℕ) → Bool) → ℕ → Snapshot M D → Snapshot M D → Result Settling RunFault
         → Type 0
     SettleAnswers met limit x y (Ok e) =
-        (room_fault records x ≡ None)
+        (room_fault records (length x.copies) ≡ None)
         × (e.circles ≤ limit)
         × CirclesLead A R (shape boards edges) met x e.circles y
         × EndsBy met limit e.circles y e.ending
-    SettleAnswers met limit x y (Err f) = (room_fault records x ≡ Some f) × (y ≡ x)
+    SettleAnswers met limit x y (Err f) = (room_fault records (length x.copies) ≡ Some f) × (y ≡ x)

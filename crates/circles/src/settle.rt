@@ -1,16 +1,17 @@
 // Ascending circles, until what they are made for is met.
-ghost use Rattle.std.specs.Prelude.{◌≡◌, Some, None, MatchResult};
+ghost use Rattle.std.specs.Prelude.{◌≡◌, Some, None};
 ghost use Rattle.medium.specs.Calls.{rules_of};
 ghost use Rattle.plan.specs.Links.{shape};
 ghost use Rattle.circles.specs.Chains.{snapshot};
-ghost use Rattle.circles.specs.Circles.{CircleAnswers, SettleAnswers, circle_fault, room_fault};
+ghost use Rattle.circles.specs.Circles.{CircleAnswers, SettleAnswers};
 
+use crate::check::check_circle;
 use crate::goal::Goal;
 use element::element::Element;
 use exchange::run::Turning;
 use medium::medium::Medium;
 use plan::view::PlanView;
-use protocol::fault::{RunFault, TURN_LIMIT};
+use protocol::fault::RunFault;
 use protocol::room::check_room;
 use protocol::table::LinkTable;
 
@@ -45,10 +46,7 @@ pub fn circle<E: Element, D: Medium>(
         (snapshot turning.old.tally table.old.links copies.old medium.old)
         (snapshot turning.new.tally table.new.links copies.new medium.new) result }
 {
-    check_room(plan, copies.len())?;
-    if TURN_LIMIT - turning.tally().turns < plan.boards() {
-        return Err(RunFault::Turns);
-    }
+    check_circle(turning, plan, copies.len())?;
     for p in 0..plan.boards() {
         let Ok(_) = turning.turn(plan, table, medium, copies, p) else {
             unreachable!()

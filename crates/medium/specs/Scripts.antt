@@ -1,6 +1,6 @@
 -- What a put and a take make of a script, by the rules of the medium below it.
 use Rattle.std.specs.Prelude.{◌≡◌, ℕ, ◌%◌, List, length, count_by}
-use Rattle.medium.specs.Calls.{Rules, rules_of, Call, Calls, LooksLike, is_put}
+use Rattle.medium.specs.Calls.{Rules, rules_of, Call, Calls, is_put}
 use Rattle.medium.specs.Fates.{entry, entry_after, script_table}
 use Rattle.medium.specs.Lanes.{Lanes}
 use Rattle.medium.specs.Puts.{Puts, Scripted, Takes}

@@ -66,9 +66,9 @@ impl<M: Medium> Quota<M> {
 
     pub fn over(below: M, limit: Limit) -> Quota<M>
         ensures parts { (result.below ≡ below) × (result.limit ≡ limit) }
-        ensures decided { let R = rules_of M.Medium.lanes M.Medium.takes M.Medium.puts in
+        ensures decided { let R = rules_of M.lanes M.takes M.puts in
             IsDecided R below → IsDecided (quota_rules R) result }
-        ensures fills { let R = rules_of M.Medium.lanes M.Medium.takes M.Medium.puts in
+        ensures fills { let R = rules_of M.lanes M.takes M.puts in
             FillsEmptyLanes R → FillsEmptyLanes (quota_rules R) }
     {
         Quota { below, limit }

@@ -58,9 +58,9 @@ impl<M: Medium> Script<M> {
 
     pub fn over(below: M) -> Script<M>
         ensures parts { (result.below ≡ below) × (result.next ≡ 0) }
-        ensures decided { let R = rules_of M.Medium.lanes M.Medium.takes M.Medium.puts in
+        ensures decided { let R = rules_of M.lanes M.takes M.puts in
             IsDecided R below → IsDecided (script_rules R) result }
-        ensures follows { let R = rules_of M.Medium.lanes M.Medium.takes M.Medium.puts in
+        ensures follows { let R = rules_of M.lanes M.takes M.puts in
             FollowsTheTable R result }
     {
         Script { below, next: 0 }

@@ -90,7 +90,7 @@ impl<E: Element> OwnSums<E> {
 }
 
 // Sets each copy of the plan to its board's own sum, where nothing is against it.
-pub fn set_own_sums<E: Element>(scene: &SceneView, plan: &PlanView, copies: &mut [E])
+pub(crate) fn set_own_sums<E: Element>(scene: &SceneView, plan: &PlanView, copies: &mut [E])
     requires { load_fault E.Element.algebra (viewed scene.now) plan.now.copies.now copies.old ≡ None }
     ensures { copies.new
         ≡ loaded_copies E.Element.algebra (viewed scene.now) plan.now.copies.now

@@ -2,7 +2,8 @@
 use super::deaf::Deaf;
 use super::given::{NO_DEPTHS, SCENE, plan, started};
 use cabinet::listed::list;
-use cabinet::settle::settle;
+use circles::goal::AllSettled;
+use circles::settle::{Ending, Settling, settle};
 use element::depth::Depth;
 use exchange::fault::RunFault;
 use exchange::run::Turning;
@@ -50,13 +51,27 @@ fn deaf_lanes_leave_boards_awaiting(rt: HostRuntime) -> Result<(), Fail> {
     let mut values = NO_DEPTHS;
     let mut medium = Deaf;
     let mut turning = started(&plan, &mut table, &medium, &mut values)?;
-    let settled = settle(&mut turning, &plan, &mut table, &mut medium, &mut values, 3);
+    let settled = settle(
+        &mut turning,
+        &plan,
+        &mut table,
+        &mut medium,
+        &mut values,
+        &AllSettled,
+        3,
+    );
     let awaiting = both_await(&rt, &turning, &plan, &table);
     let given_up = given_up(turning, &plan, &table);
     awaiting?;
     let (tally, fault) = given_up.ok_or("the run ended")?;
     assert!(rt; fault == RunFault::Early { board: 0 } && fault.number() == 15);
-    assert!(rt; settled == Ok(false));
+    assert!(rt;
+        settled
+            == Ok(Settling {
+                ending: Ending::Limit,
+                circles: 3
+            })
+    );
     // Board 1 puts its first item again in each circle; board 0 has nothing to put before it has gathered.
     let lossy = Tally {
         turns: 6,
@@ -103,7 +118,15 @@ fn board_1_alone_may_be_awaiting(rt: HostRuntime) -> Result<(), Fail> {
     let mut medium = Queue::new();
     let mut turning = started(&plan, &mut table, &medium, &mut values)?;
     // In its third turn board 0 has both items; board 1 is still to take what they came to.
-    let _ = settle(&mut turning, &plan, &mut table, &mut medium, &mut values, 2);
+    let _ = settle(
+        &mut turning,
+        &plan,
+        &mut table,
+        &mut medium,
+        &mut values,
+        &AllSettled,
+        2,
+    );
     let _ = turning.turn(&plan, &mut table, &mut medium, &mut values, 0);
     let first = turning.report(&plan, &table, 0);
     let second = turning.report(&plan, &table, 1);

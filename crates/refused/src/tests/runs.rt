@@ -2,7 +2,8 @@
 ghost use Rattle.std.specs.Prelude.{◌≤◌};
 
 use super::given::{NO_DEPTHS, SOME_FRAME, plan, refusal, scene, started};
-use cabinet::settle::settle;
+use circles::goal::AllSettled;
+use circles::settle::settle;
 use element::depth::Depth;
 use element::tags::Tags;
 use exchange::fault::RunFault;
@@ -122,7 +123,15 @@ fn showing_is_refused(rt: HostRuntime) -> Result<(), Fail> {
     let mut medium = Queue::new();
     let mut values = NO_DEPTHS;
     let mut turning = started(&plan, &mut table, &medium, &mut values)?;
-    let _ = settle(&mut turning, &plan, &mut table, &mut medium, &mut values, 9);
+    let _ = settle(
+        &mut turning,
+        &plan,
+        &mut table,
+        &mut medium,
+        &mut values,
+        &AllSettled,
+        9,
+    );
     match turning.end(&plan, &table) {
         Ok((ended, _)) => {
             let seen = shows(&rt, &ended, &plan, &values);
@@ -167,7 +176,15 @@ fn a_run_begun_after_another_ends_with_the_totals(rt: HostRuntime) -> Result<(),
             turning
         }
     };
-    let _ = settle(&mut turning, &plan, &mut table, &mut medium, &mut values, 9);
+    let _ = settle(
+        &mut turning,
+        &plan,
+        &mut table,
+        &mut medium,
+        &mut values,
+        &AllSettled,
+        9,
+    );
     match finish(turning, &plan, &table, &values, 1) {
         Ok((shown, _)) => {
             assert!(rt;

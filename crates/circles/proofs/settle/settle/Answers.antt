@@ -1,5 +1,5 @@
 -- One circle more.
-use Rattle.std.proofs.Common.{◌≡◌, ℕ, ◌+◌, add-one, sym, ◌∙◌, subst}
+use Rattle.std.proofs.Common.{ℕ, add-one, sym, ◌∙◌, subst}
 use Rattle.medium.specs.Calls.{rules_of}
 use Rattle.plan.specs.Links.{shape}
 use Rattle.circles.specs.Chains.{CirclesLead, no_circle, next_circle, snapshot}
