@@ -7,4 +7,5 @@ mod page;
 pub mod prepare;
 pub mod programs;
 
+pub use circles::settle;
 pub use refusals::refusal;

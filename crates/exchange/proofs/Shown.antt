@@ -100,7 +100,7 @@ module _ {M : Type 0} (A : Algebra M) (law : Lawful A) (s : Scene) (boards : ℕ
       ap (λ S. report_by S table p) same_shape
       ∙ promised.reports_follow_the_book p (omega (arith, plan.same_boards))
 
-  lowest_is_the_books : lowest_unsettled (shape boards edges) table ≡ lowest_unsettled (laid A s) book
+  pub lowest_is_the_books : lowest_unsettled (shape boards edges) table ≡ lowest_unsettled (laid A s) book
   lowest_is_the_books =
       ap (λ S. lowest_unsettled S table) same_shape
       ∙ lowest_same _ _ s.boards

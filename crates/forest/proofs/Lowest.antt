@@ -3,6 +3,16 @@ use Rattle.std.proofs.Common.{◌≡◌, ℕ, zero, suc, ◌<◌, ◌≤◌, Boo
 use Rattle.std.proofs.lemmas.Bool.{cases_eq, cases_lt, cases_Bool, lt-ltb, le-ltb}
 use Rattle.forest.specs.Forest.{lowest}
 
+pub lowest_le : (t : ℕ → Bool) (n : ℕ) → lowest t n ≤ n
+lowest_le t zero = omega arith
+lowest_le t (suc n) = elim (cases_lt (lowest t n) n) [
+  | inl l ↦ rw (lt-ltb _ _ l) (omega arith)
+  | inr g ↦ rw (le-ltb (lowest t n) n g) (elim (cases_Bool (t n)) [
+    | inl e ↦ rw e (omega arith)
+    | inr e ↦ rw e (omega arith)
+  ])
+]
+
 pub lowest_passes : (t : ℕ → Bool) (n : ℕ) → lowest t n < n → t (lowest t n) ≡ true
 lowest_passes t zero = λ l. absurd (omega arith)
 lowest_passes t (suc n) = elim (cases_lt (lowest t n) n) [

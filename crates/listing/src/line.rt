@@ -1,6 +1,7 @@
 // A line of text in memory of its own.
 ghost use Rattle.std.specs.Prelude.{◌≡◌, ◌≤◌, length};
 
+mod placing;
 mod writing;
 
 // The first `len` of `bytes`. No line has more than five numbers of 20 digits and 38 bytes besides.
@@ -11,4 +12,10 @@ pub struct Line {
     len: usize,
     ghost room: { length bytes ≡ 160 },
     ghost within: { len ≤ 160 },
+}
+
+// There is no room for a line of so many bytes.
+#[derive(Clone, Copy, PartialEq, Eq)]
+pub struct NoRoom {
+    pub needed: usize,
 }

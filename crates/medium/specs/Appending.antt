@@ -1,9 +1,9 @@
 -- What appending to one lane makes of each lane.
-use Rattle.std.specs.Prelude.{◌≡◌, ℕ, ◌+◌, ◌≤◌, Bool, true, false, cond, List, ◌++◌, length, replicate, ◌==◌, refl}
+use Rattle.std.specs.Prelude.{◌≡◌, ℕ, ◌+◌, ◌≤◌, Bool, true, false, cond, List, [], ◌++◌, length, replicate, ◌==◌, refl}
 use Rattle.std.proofs.Common.{ap, ◌∙◌, arith}
 use Rattle.std.proofs.Math.Path.{fun_ext}
-use Rattle.std.proofs.lemmas.Bool.{cond-true, and_from, eq-eqb}
-use Rattle.std.proofs.lemmas.List.{append_assoc, length-append, length-replicate}
+use Rattle.std.proofs.lemmas.Bool.{cond-true, cond-false, and_from, eq-eqb}
+use Rattle.std.proofs.lemmas.List.{append-nil, append_assoc, length-append, length-replicate}
 use Rattle.std.proofs.lemmas.List.{replicate-append-replicate}
 use Rattle.medium.specs.declared.frame.Frame.{Frame}
 use Rattle.medium.specs.Lanes.{Lanes, same_lane, appended}
@@ -18,6 +18,18 @@ same_lane_here from to = and_from (from == from) (to == to) (eq-eqb from from re
 pub appended_here :
     (l : Lanes) (from to : ℕ) (f : Frame) (k : ℕ) → appended l from to f k from to ≡ l from to ++ replicate k f
 appended_here l from to f k = cond-true (same_lane from to from to) _ _ (same_lane_here from to)
+
+pub appended_elsewhere :
+    (l : Lanes) (from to : ℕ) (f : Frame) (k p q : ℕ) → same_lane from to p q ≡ false →
+    appended l from to f k p q ≡ l p q
+appended_elsewhere l from to f k p q other = cond-false (same_lane from to p q) _ _ other
+
+none_more : (b : Bool) (xs : List Frame) → cond b (xs ++ []) xs ≡ xs
+none_more true xs = append-nil xs
+none_more false xs = refl
+
+pub appended_none : (l : Lanes) (from to : ℕ) (f : Frame) → appended l from to f 0 ≡ l
+appended_none l from to f = lanes_agree _ l (λ p q. none_more (same_lane from to p q) (l p q))
 
 both_more :
     (b : Bool) (xs : List Frame) (f : Frame) (j k : ℕ) →

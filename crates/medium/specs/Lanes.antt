@@ -36,6 +36,10 @@ first (f ∷ fs) = Some f
 abbrev pub shortened : Lanes → ℕ → ℕ → Lanes
 shortened lanes from to p q = cond (same_lane from to p q) (drop 1 (lanes p q)) (lanes p q)
 
+-- one lane without its k oldest frames; every other lane as it was
+abbrev pub drained : Lanes → ℕ → ℕ → ℕ → Lanes
+drained lanes from to k p q = cond (same_lane from to p q) (drop k (lanes p q)) (lanes p q)
+
 -- no frame waits anywhere
 abbrev pub empty_lanes : Lanes
 empty_lanes p q = []

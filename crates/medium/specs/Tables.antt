@@ -1,6 +1,6 @@
 -- What the 64 lanes of a queue hold, and after one of them changed.
 use Rattle.std.specs.Prelude.{◌≡◌, ℕ, zero, suc, ◌+◌, ◌*◌, ◌<◌, ◌≤◌, ◌↔◌, Bool, true, false, cond, ◌&&◌, List, [], ◌∷◌}
-use Rattle.std.specs.Prelude.{◌++◌, map, length, drop, remove, replicate, Option, Some, None, IsSome, OnSome}
+use Rattle.std.specs.Prelude.{◌++◌, map, length, take, drop, remove, replicate, Option, Some, None, IsSome, OnSome}
 use Rattle.std.specs.Prelude.{IfNone, Result, Ok, Err, IsOk, ⊤, ◌==◌, ◌≢◌, nat_lt, slice_index_or, slice_set, refl}
 use Rattle.std.specs.Array.{AllOfLen}
 use Rattle.std.specs.List.{All}
@@ -15,9 +15,15 @@ use Rattle.std.proofs.lemmas.List.{append-nil, get_or-map, get_or-set_other, get
 use Rattle.std.proofs.lemmas.List.Elements.{All-head, All-tail}
 use Rattle.arrayvec.specs.ArrayVec.{ArrayVec, array_vec_len}
 use Rattle.medium.specs.declared.frame.Frame.{Frame}
-use Rattle.medium.specs.Lanes.{is_lane, same_lane, empty_lanes}
+use Rattle.medium.specs.Lanes.{first, is_lane, same_lane, empty_lanes}
 use Rattle.medium.specs.Held.{frames_in, lanes_of, pushed_lane, table_lanes}
 use Rattle.medium.specs.Appending.{lanes_agree}
+
+pub first_taken :
+    (xs : List Frame) (n : ℕ) (d : Frame) → 0 < n → 0 < length xs → Some (slice_index_or xs 0 d) ≡ first (take n xs)
+first_taken [] n d p q = absurd (omega arith)
+first_taken (x ∷ xs) zero d p q = absurd (omega arith)
+first_taken (x ∷ xs) (suc n) d p q = refl
 
 -- what holds of the frames of each lane and of no frames holds at any place
 held_at :

@@ -1,15 +1,15 @@
 -- The items of all links as a measure, and how many full circles settle every board.
-use Rattle.std.proofs.Common.{◌≡◌, ℕ, ◌+◌, ◌*◌, ◌<◌, ◌≤◌, cond, eqb, ◌≢◌, ◌⊎◌, List, ◌++◌, length, inl, inr}
+use Rattle.std.proofs.Common.{◌≡◌, ℕ, ◌+◌, ◌*◌, ◌<◌, ◌≤◌, cond, eqb, ◌≢◌, ◌⊎◌, List, ◌++◌, length, sym, ◌∙◌, inl, inr}
 use Rattle.std.proofs.Common.{arith}
 use Rattle.std.specs.List.{AllByRecursion}
 use Rattle.std.proofs.lemmas.Bool.{cases_eq, eq-eqb, ne_eqb, cases_lt, cases_Bool}
 use Rattle.element.specs.Algebra.{Algebra, Lawful}
 use Rattle.plan.specs.Links.{items}
 use Rattle.protocol.specs.Turns.{State}
-use Rattle.protocol.specs.Books.{HasAll}
+use Rattle.protocol.specs.Books.{lacks, HasAll}
 use Rattle.protocol.specs.Promise.{Full, flat}
 use Rattle.protocol.proofs.Plan.{Plan}
-use Rattle.protocol.proofs.Pairs.{pairs, pairs_add, pairs_swap, pairs_le, pairs_lt, all_or_one}
+use Rattle.protocol.proofs.Pairs.{pairs, over_links, pairs_add, pairs_swap, pairs_le, pairs_lt, pairs_same, all_or_one}
 use Rattle.protocol.proofs.Invariant.{Inv, FreshState, fresh_keeps}
 use Rattle.protocol.proofs.Trips.{Trip, Window, window_keeps}
 use Rattle.protocol.proofs.Count.{enough}
@@ -22,9 +22,12 @@ module _ {M : Type 0} {A : Algebra M} (P : Plan A) where
   abbrev pub edges : ℕ
   edges = pairs P.shape.boards P.shape.up
 
-  -- how many items were accepted, over all links
+  -- how many items were accepted, and how many are lacking
   abbrev pub accepted : State M → ℕ
-  accepted s = pairs P.shape.boards (λ a b. cond (eqb a b) 0 (s.j a b))
+  accepted s = over_links P.shape.boards s.j
+
+  abbrev pub lacking : State M → ℕ
+  lacking s = pairs P.shape.boards (λ a b. lacks P.shape s.j b a)
 
   abbrev pub AllSettled : State M → Type 0
   AllSettled s = (p : ℕ) → p < P.shape.boards → HasAll P.shape s.j p
@@ -38,6 +41,17 @@ module _ {M : Type 0} {A : Algebra M} (P : Plan A) where
 
   no_items_to_self : (a b : ℕ) → a ≡ b → items P.shape a b ≡ 0
   no_items_to_self a b e = rw e (omega (arith, P.no_self b))
+
+  pub accepted_plus_lacking : (s : State M) → Inv P s → accepted s + lacking s ≡ 2 * edges
+  accepted_plus_lacking s v =
+      sym (pairs_add P.shape.boards _ _) ∙ pairs_same P.shape.boards _ _ each ∙ items_counted
+    where
+      each : (a b : ℕ) → a < P.shape.boards → b < P.shape.boards
+          → cond (eqb a b) 0 (s.j a b) + lacks P.shape s.j b a ≡ items P.shape a b
+      each a b la lb = elim (cases_eq a b) [
+        | inl e ↦ rw (eq-eqb a b e) (omega (arith, no_items_to_self a b e))
+        | inr d ↦ rw (ne_eqb a b d) (omega (arith, (v.links a b la lb d).le))
+      ]
 
   link_le : (s u : State M) (a b : ℕ) → s.j a b ≤ u.j a b → cond (eqb a b) 0 (s.j a b) ≤ cond (eqb a b) 0 (u.j a b)
   link_le s u a b y = elim (cases_Bool (eqb a b)) [ inl e ↦ rw e (omega arith) | inr e ↦ rw e y ]

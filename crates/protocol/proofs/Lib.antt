@@ -20,6 +20,7 @@ pub mod Holdings
 pub mod Circles
 pub mod Reports
 pub mod Moments
+pub mod Tallies
 pub mod Promised
 pub mod LaidPlan
 pub mod Theorem

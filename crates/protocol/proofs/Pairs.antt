@@ -1,5 +1,5 @@
 -- Sums of numbers below n, and over all pairs of boards.
-use Rattle.std.proofs.Common.{◌≡◌, ℕ, zero, suc, ◌+◌, ◌<◌, ◌≤◌, ◌⊎◌, sym, refl, ◌∙◌, inl}
+use Rattle.std.proofs.Common.{◌≡◌, ℕ, zero, suc, ◌+◌, ◌-◌, ◌<◌, ◌≤◌, cond, eqb, ◌≢◌, ◌⊎◌, sym, refl, ◌∙◌, subst, inl}
 use Rattle.std.proofs.Common.{inr, arith}
 use Rattle.std.proofs.lemmas.Bool.{cases_eq}
 use Rattle.plan.specs.Sums.{sum_below}
@@ -8,6 +8,10 @@ use Rattle.plan.proofs.Orders.{sum_same}
 -- the sum over all pairs of boards below n
 abbrev pub pairs : ℕ → (ℕ → ℕ → ℕ) → ℕ
 pairs n f = sum_below n (λ a. sum_below n (λ b. f a b))
+
+-- the sum over all links: pairs of two boards apart
+abbrev pub over_links : ℕ → (ℕ → ℕ → ℕ) → ℕ
+over_links n f = pairs n (λ a b. cond (eqb a b) 0 (f a b))
 
 pub sum_le : (n : ℕ) (f g : ℕ → ℕ) → ((k : ℕ) → k < n → f k ≤ g k) → sum_below n f ≤ sum_below n g
 sum_le zero f g h = omega arith
@@ -61,4 +65,16 @@ all_or_one (suc n) A B h = elim (all_or_one n A B h) [
     | inr b ↦ inr (n, omega arith, b)
     | inl a ↦ inl (λ k l. elim (cases_eq k n) [ inl e ↦ rw e a | inr d ↦ all k (omega arith) ])
   ]
+]
+
+-- where f grows at b alone, the sum grows by as much
+pub sum_grows_at : (n : ℕ) (f g : ℕ → ℕ) (b : ℕ) → b < n → f b ≤ g b → ((k : ℕ) → k ≢ b → g k ≡ f k)
+    → sum_below n g ≡ sum_below n f + (g b - f b)
+sum_grows_at zero f g b l le h = absurd (omega arith)
+sum_grows_at (suc n) f g b l le h = elim (cases_eq b n) [
+  | inl e ↦
+      let rest = sum_same n g f (λ k l. h k (omega arith)) in
+      subst (λ m. sum_below n g + g n ≡ sum_below n f + f n + (g m - f m)) (sym e)
+      (omega (arith, rest, subst (λ m. f m ≤ g m) e le))
+  | inr d ↦ omega (arith, sum_grows_at n f g b (omega arith) le h, h n (λ e. d (sym e)))
 ]

@@ -1,25 +1,26 @@
 -- Every run over the laid plan of a scene keeps the promise.
-use Rattle.std.proofs.Common.{◌≡◌, ℕ, ◌+◌, ◌*◌, ◌<◌, ◌≤◌, ◌⊎◌, List, ◌++◌, length, get_or, sym, ap, ◌∙◌, subst}
+use Rattle.std.proofs.Common.{◌≡◌, ℕ, ◌+◌, ◌*◌, ◌<◌, ◌≤◌, ◌≢◌, ◌⊎◌, List, ◌++◌, length, get_or, sym, ap, ◌∙◌, subst}
 use Rattle.std.proofs.Common.{inl, inr, arith}
 use mathlib.Core.Path.{fun_ext}
 use Rattle.std.specs.List.{AllByRecursion}
 use Rattle.element.specs.Algebra.{Algebra, Lawful}
 use Rattle.scene.specs.Cells.{Scene, Sound}
-use Rattle.plan.specs.Links.{no_edge}
+use Rattle.plan.specs.Links.{items, no_edge}
 use Rattle.forest.specs.Forest.{laid_copies, laid_edges}
-use Rattle.protocol.specs.Books.{Book, HasAll, report_by}
-use Rattle.protocol.specs.Runs.{Moment, Run, seen, laid, accepted_in}
+use Rattle.protocol.specs.Books.{Book, lacks, HasAll, report_by}
+use Rattle.protocol.specs.Runs.{Moment, Run, seen, laid, link_at, accepted_in}
 use Rattle.protocol.specs.Promise.{Promise, Full, flat, copy_board, HoldsOwn, HoldsTotal, EveryRunKeepsThePromise}
 use Rattle.protocol.proofs.Plan.{Plan}
 use Rattle.protocol.proofs.Tied.{OfScene}
-use Rattle.protocol.proofs.Pairs.{pairs}
-use Rattle.protocol.proofs.Invariant.{Inv, fresh_keeps}
+use Rattle.protocol.proofs.Pairs.{pairs, over_links}
+use Rattle.protocol.proofs.Invariant.{Inv, fresh_keeps, counts_in_order}
 use Rattle.protocol.proofs.Trips.{Trip}
 use Rattle.protocol.proofs.Steps.{Step, trip_inv}
 use Rattle.protocol.proofs.Holdings.{settled_boards_hold_totals, leaves_hold_own_sum_or_total}
-use Rattle.protocol.proofs.Circles.{four_circles_an_edge_settle_all}
+use Rattle.protocol.proofs.Circles.{accepted_plus_lacking, four_circles_an_edge_settle_all}
 use Rattle.protocol.proofs.Reports.{settled_report_has_all, has_all_settled_report, report_names_lowest_lacking}
 use Rattle.protocol.proofs.Moments.{book_is_accepted, turns_counted, losses_counted, run_is_trip}
+use Rattle.protocol.proofs.Tallies.{accepted_counted}
 
 module _ {M : Type 0} (A : Algebra M) (law : Lawful A) (s : Scene) (P : Plan A) (tie : OfScene P s)
     (ts : List ℕ) (m : Moment M) (book : Book) (l : ℕ) (run : Run A s ts m book l) where
@@ -41,6 +42,29 @@ module _ {M : Type 0} (A : Algebra M) (law : Lawful A) (s : Scene) (P : Plan A) 
 
   accepted_has_all : (p : ℕ) → HasAll P.shape (accepted_in m.links) p → HasAll (laid A s) book p
   accepted_has_all p h = subst (λ S. HasAll S book p) tie.shape_is (rw book_is h)
+
+  -- of each link: what is known to have arrived was accepted, at most one item more was, and never more than there are
+  pub run_counts_in_order : (p q : ℕ) → p < s.boards → q < s.boards → p ≢ q
+      → ((link_at m.links p q).i ≤ (link_at m.links p q).j)
+      × ((link_at m.links p q).j ≤ (link_at m.links p q).i + 1)
+      × ((link_at m.links p q).j ≤ items (laid A s) p q)
+  run_counts_in_order p q pb qb pq =
+      let (a, b, c) = counts_in_order P (seen A m) run_inv p q (rw boards_are pb) (rw boards_are qb) pq in
+      (a, b, subst (λ S. (link_at m.links p q).j ≤ items S p q) tie.shape_is c)
+
+  -- each edge is two items, and each item is accepted or lacking
+  pub run_accepted_plus_lacking :
+      over_links s.boards book + pairs s.boards (λ a b. lacks (laid A s) book b a) ≡ 2 * length (laid_edges s)
+  run_accepted_plus_lacking = rw book_is
+      (subst (λ S. over_links S.boards (accepted_in m.links)
+      + pairs S.boards (λ a b. lacks S (accepted_in m.links) b a)
+      ≡ 2 * pairs S.boards P.shape.up)
+      tie.shape_is (accepted_plus_lacking P (seen A m) run_inv)
+      ∙ ap (λ e. 2 * e) tie.edges_counted)
+
+  -- and the tally counts those accepted
+  pub run_tally_counts_accepted : m.tally.accepted ≡ over_links s.boards book
+  run_tally_counts_accepted = rw book_is (accepted_counted A s run)
 
   settled_hold : (p : ℕ) → p < s.boards → HasAll (laid A s) book p
       → (c : ℕ) → c < length (laid_copies s) → copy_board A s c ≡ p → HoldsTotal A s m c

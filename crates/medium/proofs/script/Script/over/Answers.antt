@@ -4,11 +4,10 @@ use Rattle.medium.specs.Calls.{rules_of}
 use Rattle.medium.proofs.Scripts.{scripts_alike, follows_the_table}
 use Rattle.medium.proofs.script.Script.over.Goals as goal
 
-pub returns : goal.returns
-returns g c =
-    let R = rules_of g.M.Medium.lanes g.M.Medium.takes g.M.Medium.puts in
-    record {
-      parts = (refl, refl);
-      decided = λ like. scripts_alike R R _ _ refl like;
-      follows = follows_the_table R _ refl;
-    }
+pub returns-clause-decided : goal.returns-clause-decided
+returns-clause-decided g c like =
+    let R = rules_of g.M.Medium.lanes g.M.Medium.takes g.M.Medium.puts in scripts_alike R R _ _ refl like
+
+pub returns-clause-follows : goal.returns-clause-follows
+returns-clause-follows g c =
+    follows_the_table (rules_of g.M.Medium.lanes g.M.Medium.takes g.M.Medium.puts) _ refl
