@@ -1,5 +1,5 @@
 -- Lists of records that rise: how many they are, and how they fall into parts.
-use Rattle.std.proofs.Common.{◌≡◌, ℕ, zero, suc, ◌+◌, ◌<◌, ◌≤◌, Bool, true, false, ◌&&◌, eqb, ltb}
+use Rattle.std.proofs.Common.{◌≡◌, ◌≢◌, ℕ, zero, suc, ◌+◌, ◌<◌, ◌≤◌, Bool, true, false, ◌&&◌, eqb, ltb}
 use Rattle.std.proofs.Common.{List, [], ◌∷◌, ◌++◌, length, get_or, take, drop, filter, refl, ap, ◌∙◌, inl, inr}
 use Rattle.std.proofs.Common.{length-append, arith}
 use Rattle.std.specs.List.{All, AllPairs}
@@ -152,3 +152,27 @@ module _ {X : Type 0} (f : X → ℕ) (n : ℕ) where
       let level = filter (λ x. eqb (f x) n) xs in
       let high = filter (λ x. ltb n (f x)) xs in
       omega (arith, ap length (in_parts xs o), length-append low (level ++ high), length-append level high)
+
+  -- and there are none, where the record behind those below is not at n
+  pub none_at : (xs : List X) → IsNonDecreasingBy f xs → (d : X)
+      → (length (filter (λ x. ltb (f x) n) xs) < length xs
+      → f (get_or xs (length (filter (λ x. ltb (f x) n) xs)) d) ≢ n)
+      → length (filter (λ x. eqb (f x) n) xs) ≡ 0
+  none_at [] o d h = refl
+  none_at (x ∷ xs) o d h =
+      let later : All (λ y. f x ≤ f y) xs = λ k e l. o 0 (suc k) e (omega arith) (omega arith) in
+      elim (cases_order (f x) n) [
+        | inl e ↦
+            let low : filter (λ y. ltb (f y) n) xs ≡ [] =
+            none_kept _ xs (λ k i l. le-ltb _ n (omega (arith, later k i l))) in
+            absurd ((rw (le-ltb (f x) n (omega arith), low) at h) (omega arith) e)
+        | inr c ↦ elim c [
+          | inl l ↦ rw (ne_eqb (f x) n (λ e. omega arith))
+              (none_at xs (λ i j e k b. o (suc i) (suc j) e (omega arith) (omega arith)) d
+              (λ b. (rw (lt-ltb (f x) n l) at h) (omega arith)))
+          | inr l ↦
+              let level : filter (λ y. eqb (f y) n) xs ≡ [] =
+              none_kept _ xs (λ k i b. ne_eqb _ n (λ e. omega (arith, later k i b))) in
+              rw (ne_eqb (f x) n (λ e. omega arith), level) refl
+        ]
+      ]

@@ -1,18 +1,25 @@
 // Where each link's edges begin.
-ghost use Rattle.std.specs.Prelude.{◌≡◌, true};
+ghost use Rattle.std.specs.Prelude.{◌≡◌, ◌+◌, ◌<◌, true};
 ghost use Rattle.plan.specs.Sound.{sound_plan};
 ghost use Rattle.plan.specs.Starts.{edges_before, Starts};
 
 use crate::rules::Records;
-use std::array;
 
 impl Records<'_> {
-    // How many of the edges are of links below this one; in a plan they stand by link.
-    fn edges_before(&self, link: usize) -> usize
-        requires { sound_plan self.now.boards self.now.copies.now self.now.edges.now ≡ true }
-        ensures { result ≡ edges_before self.now.edges.now link }
+    // Where the edges of a link end, by where they begin; in a plan they stand by link. Most links have none, and no
+    // search is made for those.
+    fn link_end(&self, link: usize, start: usize) -> usize
+        requires sound { sound_plan self.now.boards self.now.copies.now self.now.edges.now ≡ true }
+        requires low { link < 64 }
+        requires begins { start ≡ edges_before self.now.edges.now link }
+        ensures { result ≡ edges_before self.now.edges.now (link + 1) }
     {
-        self.edges.partition_point(|edge| edge.link() < link)
+        match self.edges.get(start) {
+            Some(edge) if edge.link() == link => {
+                self.edges.partition_point(|edge| edge.link() < link + 1)
+            }
+            _ => start,
+        }
     }
 
     // For each link, how many edges come before it.
@@ -20,6 +27,10 @@ impl Records<'_> {
         requires { sound_plan self.now.boards self.now.copies.now self.now.edges.now ≡ true }
         ensures { Starts result self.now.edges.now }
     {
-        array::from_fn(|link| self.edges_before(link))
+        let mut starts = [0; 65];
+        for link in 0..64 {
+            starts[link + 1] = self.link_end(link, starts[link]);
+        }
+        starts
     }
 }
