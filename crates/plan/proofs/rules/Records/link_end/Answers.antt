@@ -1,10 +1,8 @@
 -- The search ends past the edges of the link; where none is at its start, it has none.
 use Rattle.std.proofs.Common.{◌+◌, arith, rules}
 use Rattle.std.proofs.lemmas.Grind.{common_steps}
-use Rattle.plan.specs.Links.{no_edge}
 use Rattle.plan.specs.Starts.{link_number}
-use Rattle.plan.proofs.Counting.{before_more}
-use Rattle.plan.proofs.Orders.{none_at}
+use Rattle.plan.proofs.Counting.{same_start}
 use Rattle.plan.proofs.Plans.{links_rise}
 use Rattle.plan.proofs.Searches.{ends_below}
 use Rattle.plan.proofs.rules.Records.link_end.Goals as goal
@@ -19,13 +17,11 @@ returns-in-Some c =
 pub returns-in_default : goal.returns-in_default
 returns-in_default c =
     let s = c.args.self.now in
-    let none = none_at link_number c.args.link s.edges.now
-    (links_rise s.boards s.copies.now s.edges.now c.requires.sound) no_edge (λ b e. grind (arith, common_steps)) in
-    omega (arith, none, before_more s.edges.now c.args.link, c.requires.begins)
+    same_start s.edges.now (links_rise s.boards s.copies.now s.edges.now c.requires.sound) c.args.link _
+    c.requires.begins (λ b e. grind (arith, common_steps))
 
 pub returns-in_default-2 : goal.returns-in_default-2
 returns-in_default-2 c =
     let s = c.args.self.now in
-    let none = none_at link_number c.args.link s.edges.now
-    (links_rise s.boards s.copies.now s.edges.now c.requires.sound) no_edge (λ b e. grind (arith, common_steps)) in
-    omega (arith, none, before_more s.edges.now c.args.link, c.requires.begins)
+    same_start s.edges.now (links_rise s.boards s.copies.now s.edges.now c.requires.sound) c.args.link _
+    c.requires.begins (λ b e. grind (arith, common_steps))
