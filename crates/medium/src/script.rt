@@ -56,6 +56,14 @@ impl<M: Medium> Script<M> {
     ghost use Rattle.medium.specs.Calls.{rules_of, IsDecided};
     ghost use Rattle.medium.specs.Scripts.{script_rules, FollowsTheTable};
 
+    // The first put follows the table's first entry.
+    fn at_first(below: M) -> Script<M>
+        ensures below { result.below ≡ below }
+        ensures first { result.next ≡ 0 }
+    {
+        Script { below, next: 0 }
+    }
+
     pub fn over(below: M) -> Script<M>
         ensures parts { (result.below ≡ below) × (result.next ≡ 0) }
         ensures decided { let R = rules_of M.lanes M.takes M.puts in
@@ -63,7 +71,7 @@ impl<M: Medium> Script<M> {
         ensures follows { let R = rules_of M.lanes M.takes M.puts in
             FollowsTheTable R result }
     {
-        Script { below, next: 0 }
+        Script::at_first(below)
     }
 }
 

@@ -10,7 +10,7 @@ use Rattle.std.proofs.lemmas.List.Sorted.{IsPartitionPoint-from_clause, IsPartit
 use Rattle.plan.proofs.Orders.{count_more}
 
 -- as many records pass as stand before the point
-point_counts : {X : Type 0} (t : X → Bool) (xs : List X) (i : ℕ)
+pub point_counts : {X : Type 0} (t : X → Bool) (xs : List X) (i : ℕ)
     → IsPartitionPoint (λ x. t x ≡ true) (λ x. t x ≡ false) xs i → i ≤ length xs → i ≡ length (filter t xs)
 point_counts t [] i h l = omega arith
 point_counts t (x ∷ xs) zero h l =

@@ -1,27 +1,21 @@
--- The search ends past the edges of the link; where none is at its start, it has none.
-use Rattle.std.proofs.Common.{◌+◌, arith, rules}
-use Rattle.std.proofs.lemmas.Grind.{common_steps}
+-- The first record of another link is found where the link's edges end.
+use Rattle.std.proofs.Common.{◌≡◌, true, false, eqb, get_or, ◌∙◌, rules}
+use borrow.Author.Tests.{tests}
+use Rattle.std.proofs.lemmas.Iterator.{first_from_Range}
+use Rattle.plan.specs.declared.records.Edge.{Edge}
 use Rattle.plan.specs.Starts.{link_number}
-use Rattle.plan.proofs.Counting.{same_start}
+use Rattle.plan.proofs.Counting.{found_end}
 use Rattle.plan.proofs.Plans.{links_rise}
-use Rattle.plan.proofs.Searches.{ends_below}
 use Rattle.plan.proofs.rules.Records.link_end.Goals as goal
 
-pub returns-in-Some : goal.returns-in-Some
-returns-in-Some c =
+pub returns : goal.returns
+returns c =
     let s = c.args.self.now in
-    ends_below link_number (c.args.link + 1) s.edges.now
-    (links_rise s.boards s.copies.now s.edges.now c.requires.sound) _
-    c.partition_point.ensures.bound c.partition_point.ensures.partitioned (λ a r q k. search rules)
-
-pub returns-in_default : goal.returns-in_default
-returns-in_default c =
-    let s = c.args.self.now in
-    same_start s.edges.now (links_rise s.boards s.copies.now s.edges.now c.requires.sound) c.args.link _
-    c.requires.begins (λ b e. grind (arith, common_steps))
-
-pub returns-in_default-2 : goal.returns-in_default-2
-returns-in_default-2 c =
-    let s = c.args.self.now in
-    same_start s.edges.now (links_rise s.boards s.copies.now s.edges.now c.requires.sound) c.args.link _
-    c.requires.begins (λ b e. grind (arith, common_steps))
+    let edges = s.edges.now in
+    let link = c.args.link in
+    c.unwrap_or.ensures
+    ∙ found_end edges (links_rise s.boards s.copies.now edges c.requires.sound) link c.args.start c.find.result
+    c.requires.begins
+    (first_from_Range _ _ _ _ (λ i. (d : Edge) → eqb (link_number (get_or edges i d)) link ≡ false)
+    (λ i. (d : Edge) → eqb (link_number (get_or edges i d)) link ≡ true) c.find.ensures.ran
+    (λ i q k. search (rules, tests)) (λ i q k. search (rules, tests)))
